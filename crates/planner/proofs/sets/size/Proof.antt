@@ -1,0 +1,11 @@
+-- `planner::sets::size` meets its contract: the count of ones is the count of the numbers in the set.
+-- Assumes nothing.
+use Rattle.planner.proofs.Bits.{ones-count}
+use Rattle.planner.proofs.sets.size.Statement.{statement}
+use Rattle.planner.proofs.sets.size.Tie as tie
+
+returns : tie.Need-returns
+returns c = ones-count 64 (c .args .set) (c .fits .set .fits)
+
+pub size-spec : {M : Type 1} → statement M
+size-spec = tie.close (tie.spec returns)

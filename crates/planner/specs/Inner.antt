@@ -1,0 +1,4 @@
+-- What the planner's private functions promise to each other. Nobody has to believe these: the public promises are proved from them.
+pub mod Chains
+pub mod Tighten
+pub mod Book

@@ -1,0 +1,13 @@
+// The planner: what a buoy runs. The layers are private; what is public here are the calls of document 01.
+mod book;
+mod chains;
+mod refusal;
+mod sets;
+mod tighten;
+
+pub use book::Applied;
+pub use book::Book;
+pub use book::Request;
+pub use book::apply;
+pub use book::open;
+pub use refusal::Answer;

@@ -1,0 +1,6 @@
+// Answers and the numbers of refusal.
+
+pub enum Answer {
+    Accepted(usize),
+    Refused(u8, usize),
+}
