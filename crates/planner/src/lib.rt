@@ -17,5 +17,7 @@ pub use planned::place;
 pub use planned::plan;
 pub use planned::span;
 pub use refusal::Answer;
+pub use refusal::Class;
 pub use refusal::Place;
 pub use refusal::Placed;
+pub use refusal::class_of;
