@@ -37,7 +37,7 @@ bytes-of k = bytes (jobs-of k) (latest-of k) 4096 (finish-of k)
 -- (01, Numbers of refusal: 8, "bytes needed"; The plan made: "The answer is the finishing time. Bytes beyond the plan stay")
 abbrev pub Plans : Book → List ℕ → List ℕ → Answer → Type 0
 Plans k old new r =
-    Unless (length old < 2 * finish-of k) (answer.Refused 8 (2 * finish-of k), old)
+    Unless {A = Answer × List ℕ} (length old < 2 * finish-of k) (answer.Refused 8 (2 * finish-of k), old)
     (λ x. x ≡ (Accepted (finish-of k), bytes-of k ++ drop (2 * finish-of k) old)) (r, new)
 
 -- core 1 if its seat in the job's slot is the job's, else core 0

@@ -24,14 +24,14 @@ on-second J row slot-of i = ltb (slot-of i) 4096 && eqb (seat 2 J row 4096 (slot
 -- the slots so far as a row, and the jobs left as a set
 pub record Kept (size : ℕ) (slot-of : ℕ → ℕ) (slot : List ℕ) (left : ℕ) : Type 0 where
   pub row : length slot ≡ 64
-  pub slots : (i : ℕ) → i < size → getD slot i 0 ≡ slot-of i
-  pub left : (i : ℕ) → i < size → has left i ≡ leb 4096 (slot-of i)
+  pub at : (i : ℕ) → i < size → getD slot i 0 ≡ slot-of i
+  pub free : (i : ℕ) → i < size → has left i ≡ leb 4096 (slot-of i)
   pub held : (i : ℕ) → T (has left i) → i < size
 
 -- the layout of the first t slots
 pub record Laid (J : Jobs) (row : ℕ → ℕ) (t : ℕ) (slot : List ℕ) (left second : ℕ) : Type 0 where
   pub kept : Kept (J .size) (slots 2 J row 4096 t) slot left
-  pub second : (i : ℕ) → i < J .size → has second i ≡ on-second J row (slots 2 J row 4096 t) i
+  pub cores : (i : ℕ) → i < J .size → has second i ≡ on-second J row (slots 2 J row 4096 t) i
 
 -- one slot more may be served
 pub record Serving (J : Jobs) (row : ℕ → ℕ) (t : ℕ) (slot : List ℕ) (left second : ℕ) : Type 0 where
@@ -41,6 +41,6 @@ pub record Serving (J : Jobs) (row : ℕ → ℕ) (t : ℕ) (slot : List ℕ) (l
 
 -- the whole layout
 pub record Lays (J : Jobs) (row : ℕ → ℕ) (r : Layout) : Type 0 where
-  pub slots : (i : ℕ) → i < J .size → getD (r .slot) i 0 ≡ slots 2 J row 4096 4096 i
-  pub second : (i : ℕ) → i < J .size → has (r .second) i ≡ on-second J row (slots 2 J row 4096 4096) i
-  pub finish : r .finish ≡ finish J (slots 2 J row 4096 4096)
+  pub at : (i : ℕ) → i < J .size → getD (r .slot) i 0 ≡ slots 2 J row 4096 4096 i
+  pub cores : (i : ℕ) → i < J .size → has (r .second) i ≡ on-second J row (slots 2 J row 4096 4096) i
+  pub ends : r .finish ≡ finish J (slots 2 J row 4096 4096)
