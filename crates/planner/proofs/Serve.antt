@@ -29,7 +29,7 @@ use Rattle.planner.proofs.Bits.{and-has, high-has}
 use Rattle.planner.proofs.Same.{same-test, digits-same}
 
 -- nothing is in the empty set
-empty : (j : ℕ) → T (has 0 j) → ⊥
+pub empty : (j : ℕ) → T (has 0 j) → ⊥
 empty j x = subst T (high-has 0 j (pow-pos j)) x
 
 -- no job of one set is in the other, as a test of each job
@@ -111,7 +111,7 @@ module _ (J : Jobs) (row : ℕ → ℕ) (t : ℕ) where
   unfolding seat serve
   second-taken = refl
 
-  slots-next : slots 2 J row 4096 (t + 1) ≡ put (put σ core-0 t) core-1 t
+  pub slots-next : slots 2 J row 4096 (t + 1) ≡ put (put σ core-0 t) core-1 t
   unfolding slots seat serve
   slots-next = ap (slots 2 J row 4096) (add-one t)
 
