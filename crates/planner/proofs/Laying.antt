@@ -17,6 +17,7 @@ use Rattle.schedule.specs.Make.{slots, seat}
 use Rattle.schedule.proofs.Tests.{lt-by}
 use Rattle.schedule.proofs.Rows.{greatest-bound, greatest-least}
 use Rattle.schedule.proofs.Seats.{slots-stay, slot-seat}
+use Rattle.planner.specs.declared.layout.Stage.{Stage}
 use Rattle.planner.specs.Sets.{has}
 use Rattle.planner.specs.Inner.Layout.{Layable, Laid, Late, Lays}
 use Rattle.planner.proofs.Bits.{high-has}
@@ -25,7 +26,7 @@ use Rattle.planner.proofs.Serve.{empty}
 
 module _ (J : Jobs) (row : ℕ → ℕ) where
   -- before slot 0
-  pub laid-none : (left : ℕ) → J .size ≤ 64 → ((j : ℕ) → has left j ≡ ltb j (J .size)) → Laid J row 0 (replicate 64 4096) left 0
+  pub laid-none : (left : ℕ) → J .size ≤ 64 → ((j : ℕ) → has left j ≡ ltb j (J .size)) → Laid J row (replicate 64 4096) (record { left = left; second = 0; next = record { 0 = 0 } })
   unfolding slots
   laid-none left few whole = record {
     kept = record {
@@ -37,7 +38,13 @@ module _ (J : Jobs) (row : ℕ → ℕ) where
     cores = λ i l. high-has 0 i (pow-pos i);
   }
 
-  module _ (t : ℕ) (slot : List ℕ) (left second : ℕ) (a : Laid J row t slot left second) (last : (t ≡ 0) ⊎ Late J row t) where
+  module _ (slot : List ℕ) (g : Stage) (a : Laid J row slot g) (last : (g .next .0 ≡ 0) ⊎ Late J row (g .next .0)) where
+    abbrev t : ℕ
+    t = g .next .0
+
+    abbrev left : ℕ
+    left = g .left
+
     placed : left ≡ 0 → (i : ℕ) → i < J .size → slots 2 J row 4096 t i < 4096
     placed e i l = lt-by (slots 2 J row 4096 t i) 4096 (λ le. empty i (subst (λ x. T (has x i)) e (subst T (sym (a .kept .free i l)) (le→leb 4096 (slots 2 J row 4096 t i) le))))
 
@@ -52,7 +59,7 @@ module _ (J : Jobs) (row : ℕ → ℕ) where
         (λ x. absurd (empty j x)))))
 
     -- when none is left, it is the plan
-    pub lays : t ≤ 4096 → left ≡ 0 → Lays J row (record { slot = slot; second = second; finish = t })
+    pub lays : t ≤ 4096 → left ≡ 0 → Lays J row (record { slot = slot; second = g .second; finish = t })
     unfolding finish
     lays h e = record {
       at = λ i l. a .kept .at i l ∙ sym (stay i l);

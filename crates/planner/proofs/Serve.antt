@@ -24,6 +24,7 @@ use Rattle.schedule.proofs.Rows.{put-cases, put-other}
 use Rattle.schedule.proofs.Choice.{all-each, each-all, ready-read, ready-write}
 use Rattle.schedule.proofs.Loop.{Agree, choose-ext, put-set}
 use Rattle.schedule.proofs.Seats.{taken-chosen, taken-free, slot-seat, idle-after}
+use Rattle.planner.specs.declared.layout.Stage.{Stage}
 use Rattle.planner.specs.Sets.{has}
 use Rattle.planner.specs.Told.{jobs-in, row-in}
 use Rattle.planner.specs.Inner.Choice.{ready-by, Wakes}
@@ -200,7 +201,16 @@ module _ (J : Jobs) (row : ℕ → ℕ) (t next : ℕ) (early : t < 4096) (idle 
       u h
 
 -- ---- what the code does in a slot
-module _ (size : ℕ) (start latest before : List ℕ) (t : ℕ) (slot : List ℕ) (left second : ℕ) (s : Serving (jobs-in size start before) (row-in latest) t slot left second) where
+module _ (size : ℕ) (start latest before : List ℕ) (slot : List ℕ) (g : Stage) (s : Serving (jobs-in size start before) (row-in latest) slot g) where
+  abbrev t : ℕ
+  t = g .next .0
+
+  abbrev left : ℕ
+  left = g .left
+
+  abbrev second : ℕ
+  second = g .second
+
   abbrev J : Jobs
   J = jobs-in size start before
 
@@ -223,7 +233,7 @@ module _ (size : ℕ) (start latest before : List ℕ) (t : ℕ) (slot : List �
 
   -- both idle, until a job starts
   pub idle-serves : (a next : ℕ) → a ≡ core-0 J row t → size ≤ a → Wakes size (row-in start) t next →
-      Serves J row t slot (record { left = left; second = second; next = record { 0 = next } })
+      Serves J row g slot (record { left = left; second = second; next = record { 0 = next } })
   idle-serves a next e h w = record {
     later = w .later;
     within = w .within;
@@ -236,7 +246,7 @@ module _ (size : ℕ) (start latest before : List ℕ) (t : ℕ) (slot : List �
 
   -- what is kept of the whole slot serves
   next-serves : (slot′ : List ℕ) (left′ second′ : ℕ) → Kept size (whole J row t) slot′ left′ → ((i : ℕ) → i < size → has second′ i ≡ (has second i || eqb i (core-1 J row t))) →
-      Serves J row t slot′ (record { left = left′; second = second′; next = record { 0 = t + 1 } })
+      Serves J row g slot′ (record { left = left′; second = second′; next = record { 0 = t + 1 } })
   next-serves slot′ left′ second′ kept more = record {
     later = omega arith;
     within = omega (arith, s .early);
@@ -268,7 +278,7 @@ module _ (size : ℕ) (start latest before : List ℕ) (t : ℕ) (slot : List �
 
     module _ (b : ℕ) (f : b ≡ core-1 J row t) where
       -- a lone job on core 0
-      pub lone-serves : size ≤ b → Serves J row t (set slot a t) (record { left = rest; second = second; next = record { 0 = t + 1 } })
+      pub lone-serves : size ≤ b → Serves J row g (set slot a t) (record { left = rest; second = second; next = record { 0 = t + 1 } })
       lone-serves h =
           let other : core-1 J row t ≡ size = sym f ∙ idle-is J row t (half J row t) b (f ∙ second-taken J row t) h in
           next-serves (set slot a t) rest second
@@ -277,7 +287,7 @@ module _ (size : ℕ) (start latest before : List ℕ) (t : ℕ) (slot : List �
 
       -- a job on each core
       pub full-serves : (left′ second′ : ℕ) → b < size → ((j : ℕ) → has left′ j ≡ (has rest j && not (eqb j b))) → ((j : ℕ) → has second′ j ≡ (has second j || eqb j b)) →
-          Serves J row t (set (set slot a t) b t) (record { left = left′; second = second′; next = record { 0 = t + 1 } })
+          Serves J row g (set (set slot a t) b t) (record { left = left′; second = second′; next = record { 0 = t + 1 } })
       full-serves left′ second′ h less more =
           next-serves (set (set slot a t) b t) left′ second′
           (subst (λ x. Kept size (put (half J row t) x t) (set (set slot a t) b t) left′) f
