@@ -1,10 +1,10 @@
 -- One slot served: the sets and the row that the code keeps follow the plan made.
 -- Assumes nothing.
-use mathlib.Core.Bool.{Bool, true, false, not, _&&_, _||_, and-true, and-false, or-true, or-false}
+use mathlib.Core.Bool.{Bool, not, _&&_, _||_, and-true, and-false, or-true, or-false}
 use mathlib.Core.List.{List}
-use mathlib.Core.Logic.{_⊎_, inl, inr, ⊎-elim}
+use mathlib.Core.Logic.{⊎-elim}
 use mathlib.Core.Path.{_≡_, refl, sym, ap, ap₂, subst, _∙_}
-use Prim.Native.Nat.{ℕ, zero, suc, _+_, _≤_, _<_}
+use Prim.Native.Nat.{ℕ, suc, _+_, _≤_, _<_}
 use native.Mathlib.Decide.{le-ind}
 use native.Mathlib.Nat.{le-refl, le-of-lt}
 use native.Mathlib.Numerals.{add-one}
@@ -12,7 +12,7 @@ use native.Mathlib.Omega.{arith}
 use borrow.Author.Tests.{lt-ltb, le-ltb, le-leb, lt-leb, eq-eqb, ne-eqb}
 use lib.Bits.{bitAnd}
 use lib.Dec.{T, eqb, leb, ltb, eqb→eq, leb→le, le→leb, lt→ltb, ltb→lt, not-T, T-not}
-use lib.ListN.{length, length-set, getD, set}
+use lib.ListN.{length-set, getD, set}
 use lib.Pow.{pow-pos}
 use lib.Seq.{getD-set-same, getD-set-other}
 use Rattle.schedule.specs.Row.{put, all}
@@ -22,7 +22,7 @@ use Rattle.schedule.proofs.Tests.{test, and-pair, and-fst, and-snd, or-left, or
 use Rattle.schedule.proofs.Search.{least}
 use Rattle.schedule.proofs.Rows.{put-cases, put-other}
 use Rattle.schedule.proofs.Choice.{all-each, each-all, ready-read, ready-write}
-use Rattle.schedule.proofs.Loop.{Agree, choose-ext, put-set}
+use Rattle.schedule.proofs.Loop.{Agree, choose-ext}
 use Rattle.schedule.proofs.Seats.{taken-chosen, taken-free, slot-seat, idle-after}
 use Rattle.planner.specs.declared.layout.Stage.{Stage}
 use Rattle.planner.specs.Sets.{has}
@@ -39,25 +39,31 @@ empty j x = subst T (high-has 0 j (pow-pos j)) x
 -- no job of one set is in the other, as a test of each job
 apart-all : (n set undone t : ℕ) (slot-of : ℕ → ℕ) → ((i : ℕ) → i < n → has undone i ≡ leb t (slot-of i)) → ((i : ℕ) → T (has undone i) → i < n) →
     eqb (bitAnd set undone) 0 ≡ all n (λ a. not (has set a) || ltb (slot-of a) t)
-apart-all n set undone t slot-of late held =
-    same-test (eqb (bitAnd set undone) 0) (all n led)
-    (λ x. each-all n led (λ a l. ⊎-elim
-    (λ y. or-right (not (has set a)) (ltb (slot-of a) t) (lt→ltb (slot-of a) t (lt-by (slot-of a) t (λ le.
-    empty a (subst (λ z. T (has z a)) (eqb→eq (bitAnd set undone) 0 x) (subst T (sym (and-has set undone a)) (and-pair (has set a) (has undone a) y (subst T (sym (late a l)) (le→leb t (slot-of a) le)))))))))
-    (λ z. or-left (not (has set a)) (ltb (slot-of a) t) (not-T (has set a) z))
-    (test (has set a))))
-    (λ x. eq→eqb (bitAnd set undone) 0 (digits-same (bitAnd set undone) 0 (λ j. and-has set undone j ∙ same-test (has set j && has undone j) (has 0 j)
-    (λ y. absurd (clash x j (and-fst (has set j) (has undone j) y) (and-snd (has set j) (has undone j) y)))
-    (λ y. absurd (empty j y)))))
+apart-all n set undone t slot-of late held = same-test (eqb (bitAnd set undone) 0) (all n led) (λ x. each-all n led (apart-led x)) (λ x. eq→eqb (bitAnd set undone) 0 (led-apart x))
   where
     led : ℕ → Bool
     led a = not (has set a) || ltb (slot-of a) t
 
-    clash : T (all n led) → (j : ℕ) → T (has set j) → T (has undone j) → ⊥
-    clash x j y z = ⊎-elim
-        (λ no-set. T-not (has set j) no-set y)
-        (λ lt. let up : t ≤ slot-of j = leb→le t (slot-of j) (subst T (late j (held j z)) z) in absurd (omega (arith, ltb→lt (slot-of j) t lt)))
-        (or-split (not (has set j)) (ltb (slot-of j) t) (all-each n led x j (held j z)))
+    both : (j : ℕ) → T (has set j) → T (has undone j) → T (has (bitAnd set undone) j)
+    both j x y = subst T (sym (and-has set undone j)) (and-pair (has set j) (has undone j) x y)
+
+    apart-led : T (eqb (bitAnd set undone) 0) → (a : ℕ) → a < n → T (led a)
+    apart-led x a l = ⊎-elim
+        (λ y. or-right (not (has set a)) (ltb (slot-of a) t) (lt→ltb (slot-of a) t (lt-by (slot-of a) t (λ le.
+        empty a (subst (λ z. T (has z a)) (eqb→eq (bitAnd set undone) 0 x) (both a y (subst T (sym (late a l)) (le→leb t (slot-of a) le))))))))
+        (λ z. or-left (not (has set a)) (ltb (slot-of a) t) (not-T (has set a) z))
+        (test (has set a))
+
+    led-apart : T (all n led) → bitAnd set undone ≡ 0
+    led-apart x = digits-same (bitAnd set undone) 0 (λ j. and-has set undone j ∙ same-test (has set j && has undone j) (has 0 j)
+        (λ y. absurd (clash j (and-fst (has set j) (has undone j) y) (and-snd (has set j) (has undone j) y)))
+        (λ y. absurd (empty j y)))
+      where
+        clash : (j : ℕ) → T (has set j) → T (has undone j) → ⊥
+        clash j y z = ⊎-elim
+            (λ no-set. T-not (has set j) no-set y)
+            (λ lt. omega (arith, leb→le t (slot-of j) (subst T (late j (held j z)) z), ltb→lt (slot-of j) t lt))
+            (or-split (not (has set j)) (ltb (slot-of j) t) (all-each n led x j (held j z)))
 
 -- ---- the choice by sets is the plan's
 module _ (size : ℕ) (start latest before : List ℕ) (t left undone : ℕ) (slot-of : ℕ → ℕ)
