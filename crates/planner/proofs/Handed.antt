@@ -115,9 +115,6 @@ module _ (k : Book) (m : Made k) where
 
   -- ---- what the code makes of it
   module _ (r : Layout) (x : Lays (jobs-of k) (latest-of k) r) where
-    pub slot-is : (i : ℕ) → i < k .size → getD (r .slot) i 0 ≡ plan-of k i
-    slot-is = x .at
-
     ended : (i : ℕ) → i < k .size → plan-of k i + 1 ≤ r .finish
     ended i l = omega (arith, x .ends, book-plan .within i l)
 

@@ -21,8 +21,7 @@ use Rattle.planner.specs.declared.layout.Stage.{Stage}
 use Rattle.planner.specs.Sets.{has}
 use Rattle.planner.specs.Inner.Layout.{Layable, Laid, Late, Lays}
 use Rattle.planner.proofs.Bits.{high-has}
-use Rattle.planner.proofs.Same.{same-test, digits-same}
-use Rattle.planner.proofs.Serve.{empty}
+use Rattle.planner.proofs.Readiness.{empty, none-in}
 
 module _ (J : Jobs) (row : ℕ → ℕ) where
   -- before slot 0
@@ -52,11 +51,9 @@ module _ (J : Jobs) (row : ℕ → ℕ) where
     pub slot-left : Layable J row → t ≤ 4096 → (left ≡ 0 → ⊥) → t < 4096
     slot-left ok h f = lt-by t 4096 (λ le.
         let e : t ≡ 4096 = omega arith in
-        f (digits-same left 0 (λ j. same-test (has left j) (has 0 j)
-        (λ x.
+        f (none-in left (λ j x.
         let held : j < J .size = a .kept .held j x in
-        absurd (omega (arith, ok .placed j held, subst (λ u. 4096 ≤ slots 2 J row 4096 u j) e (leb→le 4096 (slots 2 J row 4096 t j) (subst T (a .kept .free j held) x)))))
-        (λ x. absurd (empty j x)))))
+        omega (arith, ok .placed j held, subst (λ u. 4096 ≤ slots 2 J row 4096 u j) e (leb→le 4096 (slots 2 J row 4096 t j) (subst T (a .kept .free j held) x))))))
 
     -- when none is left, it is the plan
     pub lays : t ≤ 4096 → left ≡ 0 → Lays J row (record { slot = slot; second = g .second; finish = t })

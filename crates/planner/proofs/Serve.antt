@@ -1,94 +1,51 @@
 -- One slot served: the sets and the row that the code keeps follow the plan made.
 -- Assumes nothing.
-use mathlib.Core.Bool.{Bool, not, _&&_, _||_, and-true, and-false, or-true, or-false}
+use mathlib.Core.Bool.{not, _&&_, _||_, and-true, and-false, or-true, or-false}
 use mathlib.Core.List.{List}
 use mathlib.Core.Logic.{⊎-elim}
-use mathlib.Core.Path.{_≡_, refl, sym, ap, ap₂, subst, _∙_}
+use mathlib.Core.Path.{_≡_, refl, sym, ap, subst, _∙_}
 use Prim.Native.Nat.{ℕ, suc, _+_, _≤_, _<_}
 use native.Mathlib.Decide.{le-ind}
 use native.Mathlib.Nat.{le-refl, le-of-lt}
 use native.Mathlib.Numerals.{add-one}
 use native.Mathlib.Omega.{arith}
 use borrow.Author.Tests.{lt-ltb, le-ltb, le-leb, lt-leb, eq-eqb, ne-eqb}
-use lib.Bits.{bitAnd}
-use lib.Dec.{T, eqb, leb, ltb, eqb→eq, leb→le, le→leb, lt→ltb, ltb→lt, not-T, T-not}
-use lib.ListN.{length-set, getD, set}
-use lib.Pow.{pow-pos}
+use lib.Dec.{T, eqb, leb, ltb, leb→le}
+use lib.ListN.{length-set, set}
 use lib.Seq.{getD-set-same, getD-set-other}
-use Rattle.schedule.specs.Row.{put, all}
+use Rattle.schedule.specs.Row.{put}
 use Rattle.schedule.specs.Jobs.{Jobs}
-use Rattle.schedule.specs.Make.{choose, ready, taken, serve, slots, seat}
-use Rattle.schedule.proofs.Tests.{test, and-pair, and-fst, and-snd, or-left, or-right, or-split, eq→eqb, le-by, lt-by}
+use Rattle.schedule.specs.Make.{choose, taken, serve, slots, seat}
+use Rattle.schedule.proofs.Tests.{and-fst, le-by}
 use Rattle.schedule.proofs.Search.{least}
 use Rattle.schedule.proofs.Rows.{put-cases, put-other}
-use Rattle.schedule.proofs.Choice.{all-each, each-all, ready-read, ready-write}
-use Rattle.schedule.proofs.Loop.{Agree, choose-ext}
+use Rattle.schedule.proofs.Choice.{ready-read, ready-write}
+use Rattle.schedule.proofs.Loop.{Agree}
 use Rattle.schedule.proofs.Seats.{taken-chosen, taken-free, slot-seat, idle-after}
 use Rattle.planner.specs.declared.layout.Stage.{Stage}
 use Rattle.planner.specs.Sets.{has}
 use Rattle.planner.specs.Told.{jobs-in, row-in}
 use Rattle.planner.specs.Inner.Choice.{ready-by, Wakes}
 use Rattle.planner.specs.Inner.Layout.{on-second, Kept, Serving, Serves}
-use Rattle.planner.proofs.Bits.{and-has, high-has}
-use Rattle.planner.proofs.Same.{same-test, digits-same}
-
--- nothing is in the empty set
-pub empty : (j : ℕ) → T (has 0 j) → ⊥
-empty j x = subst T (high-has 0 j (pow-pos j)) x
-
--- no job of one set is in the other, as a test of each job
-apart-all : (n set undone t : ℕ) (slot-of : ℕ → ℕ) → ((i : ℕ) → i < n → has undone i ≡ leb t (slot-of i)) → ((i : ℕ) → T (has undone i) → i < n) →
-    eqb (bitAnd set undone) 0 ≡ all n (λ a. not (has set a) || ltb (slot-of a) t)
-apart-all n set undone t slot-of late held = same-test (eqb (bitAnd set undone) 0) (all n led) (λ x. each-all n led (apart-led x)) (λ x. eq→eqb (bitAnd set undone) 0 (led-apart x))
-  where
-    led : ℕ → Bool
-    led a = not (has set a) || ltb (slot-of a) t
-
-    both : (j : ℕ) → T (has set j) → T (has undone j) → T (has (bitAnd set undone) j)
-    both j x y = subst T (sym (and-has set undone j)) (and-pair (has set j) (has undone j) x y)
-
-    apart-led : T (eqb (bitAnd set undone) 0) → (a : ℕ) → a < n → T (led a)
-    apart-led x a l = ⊎-elim
-        (λ y. or-right (not (has set a)) (ltb (slot-of a) t) (lt→ltb (slot-of a) t (lt-by (slot-of a) t (λ le.
-        empty a (subst (λ z. T (has z a)) (eqb→eq (bitAnd set undone) 0 x) (both a y (subst T (sym (late a l)) (le→leb t (slot-of a) le))))))))
-        (λ z. or-left (not (has set a)) (ltb (slot-of a) t) (not-T (has set a) z))
-        (test (has set a))
-
-    led-apart : T (all n led) → bitAnd set undone ≡ 0
-    led-apart x = digits-same (bitAnd set undone) 0 (λ j. and-has set undone j ∙ same-test (has set j && has undone j) (has 0 j)
-        (λ y. absurd (clash j (and-fst (has set j) (has undone j) y) (and-snd (has set j) (has undone j) y)))
-        (λ y. absurd (empty j y)))
-      where
-        clash : (j : ℕ) → T (has set j) → T (has undone j) → ⊥
-        clash j y z = ⊎-elim
-            (λ no-set. T-not (has set j) no-set y)
-            (λ lt. omega (arith, leb→le t (slot-of j) (subst T (late j (held j z)) z), ltb→lt (slot-of j) t lt))
-            (or-split (not (has set j)) (ltb (slot-of j) t) (all-each n led x j (held j z)))
-
--- ---- the choice by sets is the plan's
-module _ (size : ℕ) (start latest before : List ℕ) (t left undone : ℕ) (slot-of : ℕ → ℕ)
-    (free : (i : ℕ) → i < size → has left i ≡ leb 4096 (slot-of i))
-    (late : (i : ℕ) → i < size → has undone i ≡ leb t (slot-of i))
-    (held : (i : ℕ) → T (has undone i) → i < size) where
-  pub choice-taken : choose size (row-in latest) (ready-by start before left undone t) size ≡ taken (jobs-in size start before) (row-in latest) 4096 t slot-of
-  unfolding taken ready
-  choice-taken = choose-ext size (row-in latest) (row-in latest) (ready-by start before left undone t) (ready (jobs-in size start before) 4096 t slot-of) size
-      (λ i l. refl)
-      (λ i l. ap₂ (λ x y. leb (getD start i 0) t && x && y) (free i l) (apart-all size (getD before i 0) undone t slot-of late held))
+use Rattle.planner.proofs.Readiness.{none-in, choice-taken}
 
 -- ---- the row and the set of jobs left
 module _ (size t : ℕ) (slot-of : ℕ → ℕ) (slot : List ℕ) (left : ℕ) (k : Kept size slot-of slot left) where
-  -- an idle core
-  pub kept-idle : (job : ℕ) → job ≡ size → Kept size (put slot-of job t) slot left
-  kept-idle job e = record {
+  -- what agrees with the slots is kept as well
+  kept-alike : (other : ℕ → ℕ) → Agree size other slot-of → Kept size other slot left
+  kept-alike other e = record {
     row = k .row;
-    at = λ i l. k .at i l ∙ sym (put-other slot-of job t i (λ q. omega arith));
-    free = λ i l. k .free i l ∙ ap (leb 4096) (sym (put-other slot-of job t i (λ q. omega arith)));
+    at = λ i l. k .at i l ∙ sym (e i l);
+    free = λ i l. k .free i l ∙ ap (leb 4096) (sym (e i l));
     held = k .held;
   }
 
+  -- an idle core
+  kept-idle : (job : ℕ) → job ≡ size → Kept size (put slot-of job t) slot left
+  kept-idle job e = kept-alike (put slot-of job t) (λ i l. put-other slot-of job t i (λ q. omega arith))
+
   -- a core that takes a job
-  pub kept-put : (job rest : ℕ) → job < size → size ≤ 64 → t < 4096 → ((j : ℕ) → has rest j ≡ (has left j && not (eqb j job))) → Kept size (put slot-of job t) (set slot job t) rest
+  kept-put : (job rest : ℕ) → job < size → size ≤ 64 → t < 4096 → ((j : ℕ) → has rest j ≡ (has left j && not (eqb j job))) → Kept size (put slot-of job t) (set slot job t) rest
   kept-put job rest l few early without = record {
     row = simp length-set (k .row);
     at = λ i h. sym (⊎-elim
@@ -100,15 +57,6 @@ module _ (size t : ℕ) (slot-of : ℕ → ℕ) (slot : List ℕ) (left : ℕ) (
         (λ x. rw (x .1) (simp (ne-eqb i job (x .0), and-true) (k .free i h)))
         (put-cases slot-of job t i);
     held = λ i x. k .held i (and-fst (has left i) (not (eqb i job)) (subst T (without i) x));
-  }
-
-  -- what agrees with the slots is kept as well
-  pub kept-alike : (other : ℕ → ℕ) → Agree size other slot-of → Kept size other slot left
-  kept-alike other e = record {
-    row = k .row;
-    at = λ i l. k .at i l ∙ sym (e i l);
-    free = λ i l. k .free i l ∙ ap (leb 4096) (sym (e i l));
-    held = k .held;
   }
 
 -- ---- the seats of slot t
@@ -229,7 +177,7 @@ module _ (size : ℕ) (start latest before : List ℕ) (slot : List ℕ) (g : St
   -- some job is left
   some-left : (i : ℕ) × (i < size) × (4096 ≤ now J row t i)
   some-left = ⊎-elim
-      (λ none. absurd (s .some (digits-same left 0 (λ j. same-test (has left j) (has 0 j) (λ x. absurd (none j (k .held j x) x)) (λ x. absurd (empty j x))))))
+      (λ none. absurd (s .some (none-in left (λ j x. none j (k .held j x) x))))
       (λ x. (x .at, x .below, leb→le 4096 (now J row t (x .at)) (subst T (k .free (x .at) (x .below)) (x .member))))
       (least size (has left) (λ i. i))
 
