@@ -13,14 +13,13 @@ use Rattle.schedule.specs.Jobs.{Jobs}
 use Rattle.schedule.specs.Plan.{HasPlan}
 use Rattle.schedule.specs.Times.{Earliest, N, up, Consistent, Breach, left}
 use Rattle.schedule.specs.Listed.{Listed, ordered, Chain, link, join, Looped, Formed, Reads, written}
-use Rattle.schedule.specs.Grow.{Renumbered}
 use Rattle.schedule.specs.Book.{Holds}
 use Rattle.schedule.proofs.Tests.{and-pair, and-fst, and-snd, or-split, eq→eqb}
 use Rattle.schedule.proofs.Early.{raise, raise-least}
 use Rattle.schedule.proofs.Exist.{latest, Bound, bound-start, bound-lower, bound-latest, bound-shut}
 use Rattle.schedule.proofs.Few.{Few, own, other, consistent-few}
 use Rattle.schedule.proofs.Choice.{all-each}
-use Rattle.schedule.proofs.Renumber.{latest-along}
+use Rattle.schedule.proofs.Renumber.{latest-agrees}
 
 -- a test that holds wherever another does
 unless : (a b : Bool) → T (not a || b) → T a → T b
@@ -313,7 +312,7 @@ module _ (x : Certificate) where
     reads = reads u;
     early = early;
     earliest = earliest u;
-    latest = latest-along 2 J J (λ i. i) (λ i. i) self early early due due led (entry times) (λ i l. refl) (λ i l. refl) same
+    latest = latest-agrees 2 J early early due due led (entry times) (λ i l. refl) (λ i l. refl) same
         (bound-latest 2 J early due (earliest u) (omega arith) led (bound u) (fewb-sound 2 J early (omega arith) led (and-snd soundb few v)));
   }
     where
@@ -331,9 +330,6 @@ module _ (x : Certificate) where
 
       same : (i : ℕ) → i < n → entry times i ≡ led i
       same i l = eqb→eq (entry times i) (led i) (all-each n equal (and-snd (soundb && few) (all n equal) t) i l)
-
-      self : Renumbered J J (λ i. i) (λ i. i)
-      self = record { size = refl; of-held = λ i l. l; to-held = λ i l. l; of-to = λ i l. refl; to-of = λ i l. refl; starts = λ i l. refl; chains = λ a b la lb. refl }
 
   -- what is refused has no plan
   pub refuse-sound : (i : ℕ) → T (refuseb i) → Refused (x .list)
