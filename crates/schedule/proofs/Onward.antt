@@ -1,13 +1,13 @@
 -- Tightening onward from the times held settles the enlarged list: what it finds is held, and where it finds nothing there is no plan.
 -- Assumes nothing.
 use mathlib.Core.Path.{_≡_}
-use Prim.Native.Nat.{ℕ, min, _+_, _≤_, _<_}
+use Prim.Native.Nat.{ℕ, min, _≤_, _<_}
 use native.Mathlib.Nat.{le-trans, le-of-eq}
 use native.Mathlib.Omega.{arith}
 use lib.Dec.{T}
 use Rattle.schedule.specs.Row.{put}
 use Rattle.schedule.specs.Jobs.{Jobs}
-use Rattle.schedule.specs.Plan.{Meets, HasPlan}
+use Rattle.schedule.specs.Plan.{HasPlan}
 use Rattle.schedule.specs.Times.{Earliest, Latest}
 use Rattle.schedule.specs.Listed.{Listed, Looped, Reads, written, with-job, with-order, with-deadline}
 use Rattle.schedule.specs.Grow.{Added, Linked}
