@@ -125,13 +125,6 @@ module _ (m : ℕ) (J : Jobs) (early due : ℕ → ℕ) (e : Earliest J early) (
       go (latest row x f) = (row, x, f slot v k)
       go (hopeless x) = absurd (x .no-plan (slot, v, k))
 
-  pub row-has-latest : (low : ℕ → ℕ) → Consistent m J early low → Beneath J low due → (row : ℕ → ℕ) × Latest m J early due row
-  row-has-latest low c h = go verdict
-    where
-      go : Verdict m J early due → (row : ℕ → ℕ) × Latest m J early due row
-      go (latest row x f) = (row, x)
-      go (hopeless x) = absurd (x .no-row (low, c, h))
-
 -- there is one latest row
 pub latest-one : (m : ℕ) (J : Jobs) (early due row other : ℕ → ℕ) → Latest m J early due row → Latest m J early due other → (i : ℕ) → i < J .size → row i ≡ other i
 latest-one m J early due row other a b i l =

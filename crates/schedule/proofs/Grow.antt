@@ -5,12 +5,12 @@ use mathlib.Core.Path.{_≡_, sym}
 use Prim.Native.Nat.{ℕ, _+_, _-_, _*_, _≤_, _<_}
 use native.Mathlib.Nat.{le-refl, le-trans, le-of-eq, mul-le-mul-left}
 use native.Mathlib.Omega.{arith}
-use lib.Dec.{T, eqb}
+use lib.Dec.{eqb}
 use Rattle.schedule.specs.Row.{put}
 use Rattle.schedule.specs.Jobs.{Jobs, Closed}
 use Rattle.schedule.specs.Plan.{Valid, Meets}
 use Rattle.schedule.specs.Times.{Earliest, N, Within, Consistent, Beneath, Latest, Full}
-use Rattle.schedule.specs.Grow.{Added, Linked}
+use Rattle.schedule.specs.Grow.{Extends, Added, Linked}
 use Rattle.schedule.proofs.Tests.{le-or-lt}
 use Rattle.schedule.proofs.Counting.{count-longer}
 use Rattle.schedule.proofs.Rows.{put-all, put-same, put-other}
@@ -21,12 +21,6 @@ use Rattle.schedule.proofs.Exist.{plan-meets}
 use Rattle.schedule.proofs.Made.{row-has-plan}
 
 -- ---- the three kinds of growth
--- the jobs of J are jobs of K, with starts no earlier, and its chains are chains of K
-pub record Extends (J K : Jobs) : Type 0 where
-  pub longer : J .size ≤ K .size
-  pub starts : (i : ℕ) → i < J .size → J .start i ≤ K .start i
-  pub chains : (a b : ℕ) → a < J .size → b < J .size → T (J .before a b) → T (K .before a b)
-
 pub extends-self : (J : Jobs) → Extends J J
 extends-self J = record { longer = omega arith; starts = λ i l. le-refl (J .start i); chains = λ a b la lb t. t }
 

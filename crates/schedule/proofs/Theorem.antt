@@ -11,7 +11,7 @@ use Rattle.schedule.specs.Plan.{Valid, Meets, HasPlan, finish}
 use Rattle.schedule.specs.Times.{Earliest, Breach, Beneath, HasRow, Latest}
 use Rattle.schedule.specs.Make.{slots, seat}
 use Rattle.schedule.specs.Listed.{Listed, Looped, Formed, Reads}
-use Rattle.schedule.specs.Grow.{Added, Linked, Renumbered}
+use Rattle.schedule.specs.Grow.{Extends, Added, Linked, Renumbered}
 use Rattle.schedule.proofs.Rows.{greatest-bound, greatest-some}
 use Rattle.schedule.proofs.Early.{exists-earliest, earliest-one}
 use Rattle.schedule.proofs.Exist.{Verdict, latest, hopeless, verdict, plan-has-latest, latest-one}
@@ -19,7 +19,7 @@ use Rattle.schedule.proofs.Few.{Few, breach-few}
 use Rattle.schedule.proofs.Made.{made-valid, made-meets, made-in-time, row-has-plan}
 use Rattle.schedule.proofs.Seats.{placed-seat, placed-settled}
 use Rattle.schedule.proofs.Chains.{reads-closed, reads-loopless, jobs, jobs-reads}
-use Rattle.schedule.proofs.Grow.{Extends, Drawn, extends-self, added-extends, linked-extends, times-drawn, put-drawn, put-sooner, same-plans, resume, latest-falls}
+use Rattle.schedule.proofs.Grow.{Drawn, extends-self, added-extends, linked-extends, times-drawn, put-drawn, put-sooner, same-plans, resume, latest-falls}
 use Rattle.schedule.proofs.Renumber.{earliest-along, latest-along}
 
 -- (0) a list with no loop means jobs that are closed and have earliest times

@@ -2,9 +2,15 @@
 -- Assumes nothing.
 use mathlib.Core.Logic.{_↔_, _⊎_}
 use mathlib.Core.Path.{_≡_}
-use Prim.Native.Nat.{ℕ, suc, _<_}
+use Prim.Native.Nat.{ℕ, suc, _≤_, _<_}
 use lib.Dec.{T}
 use Rattle.schedule.specs.Jobs.{Jobs}
+
+-- the jobs of J are jobs of K, with starts no earlier, and its chains are chains of K (01, Requests on a book: "the enlarged list")
+pub record Extends (J K : Jobs) : Type 0 where
+  pub longer : J .size ≤ K .size
+  pub starts : (i : ℕ) → i < J .size → J .start i ≤ K .start i
+  pub chains : (a b : ℕ) → a < J .size → b < J .size → T (J .before a b) → T (K .before a b)
 
 -- K is J and one job more, which no order names (01, Requests on a book: "a new job")
 pub record Added (J K : Jobs) (start : ℕ) : Type 0 where
