@@ -1,4 +1,4 @@
--- The whole result at a glance. 1 ≤ m throughout; m ≤ 2 where a plan must be made from a row.
+-- The whole result at a glance, (0) to (vii). 1 ≤ m throughout; m ≤ 2 where a plan must be made from a row.
 -- Assumes nothing.
 use mathlib.Core.Logic.{_↔_, _⊎_, inl, inr}
 use mathlib.Core.Path.{_≡_, refl}
