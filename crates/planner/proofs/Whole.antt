@@ -40,30 +40,33 @@ module _ (n : ℕ) (fault : ℕ → Type 0) (p : ℕ) (f : First n fault p) wher
 pub number-is : (start deadline r : ℕ) → Numbers start deadline r → Unsound start deadline → r ≡ number-for start deadline
 number-is start deadline r n u = n .some (λ e. n .none e u) .1
 
--- ---- what the checks leave
-pub record Sound (starts deadlines pairs before : List ℕ) : Type 0 where
+-- ---- what the checks before the last leave
+pub record Sound (starts deadlines pairs : List ℕ) : Type 0 where
   pub even : length starts ≡ length deadlines
   pub few : length starts ≤ 64
   pub jobs : (i : ℕ) → i < length starts → Unsound (getD starts i 0) (getD deadlines i 0) → ⊥
   pub held : Held (length starts) pairs
   pub free : (p : ℕ) → p < length pairs / 2 → Looping pairs p → ⊥
-  pub spells : Spells pairs (length pairs / 2) before
 
-module _ (starts deadlines pairs before : List ℕ) (s : Sound starts deadlines pairs before) where
+module _ (starts deadlines pairs : List ℕ) (s : Sound starts deadlines pairs) where
+  pub formed : Formed (list-of starts deadlines pairs)
+  formed = record { even = sym (s .even); held = pairs-held (length starts) pairs (s .held) (length pairs / 2) (omega arith) }
+
+  pub loopless : Looped (list-of starts deadlines pairs) → ⊥
+  loopless x = pairs-loopless pairs (length pairs / 2) (s .free) (x .0) (x .1)
+
+module _ (starts deadlines pairs before : List ℕ) (s : Sound starts deadlines pairs) (spells : Spells pairs (length pairs / 2) before) where
   abbrev L : Listed
   L = list-of starts deadlines pairs
 
   abbrev J : Jobs
   J = jobs-in (length starts) starts before
 
-  formed : Formed L
-  formed = record { even = sym (s .even); held = pairs-held (length starts) pairs (s .held) (length pairs / 2) (omega arith) }
-
-  loopless : Looped L → ⊥
-  loopless x = pairs-loopless pairs (length pairs / 2) (s .free) (x .0) (x .1)
+  free : Looped L → ⊥
+  free = loopless starts deadlines pairs s
 
   reads : Reads L J
-  reads = record { size = refl; start = λ i l. refl; before = λ a b la lb. s .spells .chains a b }
+  reads = record { size = refl; start = λ i l. refl; before = λ a b la lb. spells .chains a b }
 
   pub sound-settleable : (row : List ℕ) → length starts ≤ length row → Settleable starts deadlines before row
   sound-settleable row l = record {
@@ -74,18 +77,18 @@ module _ (starts deadlines pairs before : List ℕ) (s : Sound starts deadlines 
       early = λ i h. le-by _ 4095 (λ g. s .jobs i h (inl (inl g)));
       late = λ i h. le-by _ 4096 (λ g. s .jobs i h (inl (inr g)));
       closed = reads-closed L J reads;
-      loopless = reads-loopless L J reads loopless;
-      held = λ a b t. chain-held (L .orders) (length starts) (formed .held) (s .spells .chains a b .0 t);
+      loopless = reads-loopless L J reads free;
+      held = λ a b t. chain-held (L .orders) (length starts) (formed starts deadlines pairs s .held) (spells .chains a b .0 t);
     };
   }
 
   holds-row : (times row : ℕ → ℕ) → ((i : ℕ) → i < length starts → row i ≡ times i) → ((early : ℕ → ℕ) → Earliest J early → Latest 2 J early (row-in deadlines) times) → Holds 2 L J row
   unfolding written
   holds-row times row same x =
-      let e = exists-earliest J (reads-closed L J reads) (reads-loopless L J reads loopless) in
+      let e = exists-earliest J (reads-closed L J reads) (reads-loopless L J reads free) in
       record {
-        formed = formed;
-        loopless = loopless;
+        formed = formed starts deadlines pairs s;
+        loopless = free;
         reads = reads;
         early = e .0;
         earliest = e .1;

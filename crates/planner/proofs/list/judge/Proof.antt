@@ -8,6 +8,7 @@ use borrow.Author.Needs.{needs}
 use lib.ListN.{length}
 use Rattle.planner.specs.Unless.{refused, passed, clear}
 use Rattle.planner.specs.Judged.{Misshapen, turned-down}
+use Rattle.planner.specs.Inner.List.{Spells}
 use Rattle.planner.proofs.Pairs.{spells-none}
 use Rattle.planner.proofs.Whole.{none-at, stops, passes, number-is, Sound, sound-settleable, settles-judged, held-few}
 use Rattle.planner.proofs.list.judge.Statement.{statement}
@@ -18,18 +19,19 @@ shape : (c : tie.Else3) → let a = c .before .before .before .before .before .b
 shape c m = ⊎-elim (λ n. n (c .before .before .if1 .left)) (λ n. ⊎-elim (c .before .if2 .left) (λ g. omega arith) n) m
 
 -- past all checks but the last
-sound : (c : tie.Else7) → let a = c .before .before .before .before .before .before .before .before .before .before .before .before .before .before .before .args in Sound (a .starts .now) (a .deadlines .now) (a .pairs .now) (c .before .looping-pair .last .1 .0)
-sound c =
-    let n = length (c .before .before .before .before .before .before .before .before .before .before .before .before .before .before .before .args .pairs .now) / 2 in
-    let e : c .before .looping-pair .result ≡ n = omega (arith, c .before .looping-pair .ensures .first .within, c .if7 .left) in
-    record {
-      even = c .before .before .before .before .before .before .before .before .before .before .if1 .left;
-      few = c .before .before .before .before .before .before .before .if4 .left;
-      jobs = none-at _ _ _ (c .before .before .before .before .before .before .unsound-job .ensures) (c .before .before .before .before .before .if5 .left);
-      held = record { below = none-at _ _ _ (c .before .before .before .before .unheld-pair .ensures) (c .before .before .before .if6 .left) };
-      free = none-at _ _ _ (c .before .looping-pair .ensures .first) (c .if7 .left);
-      spells = rw e at (c .before .looping-pair .ensures .spells);
-    }
+sound : (c : tie.Else7) → let a = c .before .before .before .before .before .before .before .before .before .before .before .before .before .before .before .args in Sound (a .starts .now) (a .deadlines .now) (a .pairs .now)
+sound c = record {
+  even = c .before .before .before .before .before .before .before .before .before .before .if1 .left;
+  few = c .before .before .before .before .before .before .before .if4 .left;
+  jobs = none-at _ _ _ (c .before .before .before .before .before .before .unsound-job .ensures) (c .before .before .before .before .before .if5 .left);
+  held = record { below = none-at _ _ _ (c .before .before .before .before .unheld-pair .ensures) (c .before .before .before .if6 .left) };
+  free = none-at _ _ _ (c .before .looping-pair .ensures .first) (c .if7 .left);
+}
+
+spells : (c : tie.Else7) → let p = c .before .before .before .before .before .before .before .before .before .before .before .before .before .before .before .args .pairs .now in Spells p (length p / 2) (c .before .looping-pair .last .1 .0)
+spells c =
+    let e : c .before .looping-pair .result ≡ length (c .before .before .before .before .before .before .before .before .before .before .before .before .before .before .before .args .pairs .now) / 2 = omega (arith, c .before .looping-pair .ensures .first .within, c .if7 .left) in
+    rw e at (c .before .looping-pair .ensures .spells)
 
 returns : tie.Need-returns
 returns c = refused (inl (c .if1 .taken)) refl
@@ -89,7 +91,7 @@ returns-7 c =
     (stops _ _ _ (c .before .looping-pair .ensures .first) _ _ _ (c .if7 .taken) refl))))
 
 settle-requires : tie.Need-settle-requires
-settle-requires c κs = sound-settleable _ _ _ _ (sound (c .before .before)) _ (search needs)
+settle-requires c κs = sound-settleable _ _ _ _ (sound (c .before .before)) (spells (c .before .before)) _ (search needs)
 
 same-length : tie.Need-same-length
 same-length c = search needs
@@ -98,7 +100,7 @@ returns-8 : tie.Need-returns-8
 returns-8 c =
     let s = sound (c .before .before .before .before .before) in
     passed (shape (c .before .before .before .before .before .before .before .before .before .before .before .before .before)) (passed (λ g. omega arith)
-    (clear (s .jobs) (clear (s .held .below) (clear (s .free) (settles-judged _ _ _ _ s _ _ _ (c .before .before .settle .ensures))))))
+    (clear (s .jobs) (clear (s .held .below) (clear (s .free) (settles-judged _ _ _ _ s (spells (c .before .before .before .before .before)) _ _ _ (c .before .before .settle .ensures))))))
 
 pub judge-spec : {M : Type 1} → statement M
 judge-spec =
