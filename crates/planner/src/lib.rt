@@ -13,3 +13,5 @@ pub use book::apply;
 pub use book::open;
 pub use list::judge;
 pub use refusal::Answer;
+pub use refusal::Class;
+pub use refusal::class_of;
