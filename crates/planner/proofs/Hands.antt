@@ -47,12 +47,13 @@ module _ (starts deadlines before row start due : List ℕ) (s : Settleable star
 
   pub hands-tightenable : Tightenable (length starts) start before due
   hands-tightenable = record {
-    few = s .rows .few;
-    early = λ i l. omega (arith, s .rows .early i l, same-start i);
-    late = λ i l. omega (arith, s .rows .late i l, same-due i);
-    closed = record { joins = s .rows .closed .joins };
-    loopless = record { never = s .rows .loopless .never };
-    held = s .rows .held;
+    few = s .few;
+    long = hd .same-length;
+    early = λ i l. omega (arith, s .early i l, same-start i);
+    late = λ i l. omega (arith, s .late i l, same-due i);
+    closed = record { joins = s .closed .joins };
+    loopless = record { never = s .loopless .never };
+    held = s .held;
   }
 
   alike : (P : (ℕ → ℕ) → (ℕ → ℕ) → Type 0) → P (row-in start) (row-in due) → P (row-in starts) (row-in deadlines)

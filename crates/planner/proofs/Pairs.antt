@@ -3,7 +3,7 @@
 use mathlib.Core.Bool.{_||_}
 use mathlib.Core.List.{List, [], _∷_, _++_}
 use mathlib.Core.Logic.{_↔_, _⊎_, inl, inr, ⊎-elim}
-use mathlib.Core.Path.{_≡_, sym, subst, _∙_}
+use mathlib.Core.Path.{_≡_, refl, sym, subst, _∙_}
 use Prim.Native.Nat.{ℕ, zero, suc, _+_, _/_, _≤_, _<_}
 use native.Mathlib.Numerals.{add-one}
 use native.Mathlib.Omega.{arith}
@@ -47,10 +47,10 @@ no-chain (join s t) = no-chain s
 
 pub spells-none : (pairs : List ℕ) → Spells pairs 0 (replicate 64 0)
 unfolding pairs-of
-spells-none pairs = record { chains = λ a b. ((λ t. absurd (rw (zeros 64 b, none-has a) at t)), (λ c. absurd (no-chain c))) }
+spells-none pairs = record { long = refl; chains = λ a b. ((λ t. absurd (rw (zeros 64 b, none-has a) at t)), (λ c. absurd (no-chain c))) }
 
 pub spells-more : (pairs rows next : List ℕ) (n : ℕ) → Spells pairs n rows → Follows (first-of pairs n) (second-of pairs n) rows next → Spells pairs (n + 1) next
-spells-more pairs rows next n s f = rw add-one (record { chains = go f })
+spells-more pairs rows next n s f = rw add-one (record { long = ⊎-elim (λ u. rw (u .1) (s .long)) (λ u. u .0) f; chains = go f })
   where
     a : ℕ
     a = first-of pairs n
@@ -66,9 +66,10 @@ spells-more pairs rows next n s f = rw add-one (record { chains = go f })
       (λ t. pairs-grow pairs n x y .1 (inl (s .chains x y .0 t))),
       (λ c. s .chains x y .1 (follows-old o a b x y (s .chains a b .0 (u .0)) (pairs-grow pairs n x y .0 c))),
     )
-    go (inr u) x y =
-        ((λ t. pairs-grow pairs n x y .1 (through-map (λ x y. T (has (getD rows y 0) x)) (Chain o) (λ x y t. s .chains x y .0 t) a b x y (u x y .0 t))),
-        (λ c. u x y .1 (through-map (Chain o) (λ x y. T (has (getD rows y 0) x)) (λ x y c. s .chains x y .1 c) a b x y (pairs-grow pairs n x y .0 c))))
+    go (inr u) x y = (
+      (λ t. pairs-grow pairs n x y .1 (through-map (λ x y. T (has (getD rows y 0) x)) (Chain o) (λ x y t. s .chains x y .0 t) a b x y (u .1 x y .0 t))),
+      (λ c. u .1 x y .1 (through-map (Chain o) (λ x y. T (has (getD rows y 0) x)) (λ x y c. s .chains x y .1 c) a b x y (pairs-grow pairs n x y .0 c))),
+    )
 
 -- a before b closes a loop where they are one, or b is in the set before a
 pub looping-is : (pairs rows : List ℕ) (p a b : ℕ) → Spells pairs p rows → a ≡ first-of pairs p → b ≡ second-of pairs p → T (eqb a b || has (getD rows a 0) b) ↔ Looping pairs p

@@ -72,14 +72,12 @@ module _ (starts deadlines pairs before : List ℕ) (s : Sound starts deadlines 
   sound-settleable row l = record {
     even = s .even;
     room = l;
-    rows = record {
-      few = s .few;
-      early = λ i h. le-by _ 4095 (λ g. s .jobs i h (inl (inl g)));
-      late = λ i h. le-by _ 4096 (λ g. s .jobs i h (inl (inr g)));
-      closed = reads-closed L J reads;
-      loopless = reads-loopless L J reads free;
-      held = λ a b t. chain-held (L .orders) (length starts) (formed starts deadlines pairs s .held) (spells .chains a b .0 t);
-    };
+    few = s .few;
+    early = λ i h. le-by _ 4095 (λ g. s .jobs i h (inl (inl g)));
+    late = λ i h. le-by _ 4096 (λ g. s .jobs i h (inl (inr g)));
+    closed = reads-closed L J reads;
+    loopless = reads-loopless L J reads free;
+    held = λ a b t. chain-held (L .orders) (length starts) (formed starts deadlines pairs s .held) (spells .chains a b .0 t);
   }
 
   holds-row : (times row : ℕ → ℕ) → ((i : ℕ) → i < length starts → row i ≡ times i) → ((early : ℕ → ℕ) → Earliest J early → Latest 2 J early (row-in deadlines) times) → Holds 2 L J row

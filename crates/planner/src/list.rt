@@ -1,9 +1,9 @@
 // The whole list at once.
-use schedule::JobIndex;
 use crate::chains;
 use crate::refusal::Answer;
 use crate::sets;
 use crate::tighten;
+use schedule::JobIndex;
 ghost use mathlib.Core.Bool.{_||_};
 ghost use mathlib.Core.Path.{_≡_};
 ghost use Prim.Native.Nat.{ℕ, _/_, _≤_, _<_};
@@ -136,7 +136,7 @@ fn closes(rows: &[u64; 64], a: JobIndex, b: JobIndex) -> bool
 
 // Job a before job b, unless that already follows.
 fn follow(rows: &mut [u64; 64], a: JobIndex, b: JobIndex)
-    requires { ⌜ (a .0 < 64) × (b .0 < 64) ⌝ }
+    requires { ⌜ (length (now rows) ≡ 64) × (a .0 < 64) × (b .0 < 64) ⌝ }
     ensures { λ _. ⌜ Follows (a .0) (b .0) (now (rows .entry)) (now (rows .exit)) ⌝ }
 {
     let second = b.0;

@@ -58,7 +58,8 @@ returns c =
 follow-requires : tie.Need-follow-requires Inv-loop μ-loop
 follow-requires c κs =
     let p = c .before .before .before .before .before .before .before in
-    held-both 64 _ (p .before .before .pre .0) (p .loop .p) _ _ (search needs) (c .before .before .before .before .before .named .ensures) (c .before .before .before .before .named2 .ensures)
+    let h = held-both 64 _ (p .before .before .pre .0) (p .loop .p) _ _ (search needs) (c .before .before .before .before .before .named .ensures) (c .before .before .before .before .named2 .ensures) in
+    (p .loop .inv .2 .long, h .0, h .1)
 
 add-p : tie.Need-add-p Inv-loop μ-loop
 add-p c = search needs
