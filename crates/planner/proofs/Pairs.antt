@@ -27,7 +27,7 @@ through-map C D f a b x y t =
     ⊎-elim (λ c. inl (f x y c)) (λ c. inr (⊎-elim (λ e. inl e) (λ d. inr (f x a d)) (c .0), ⊎-elim (λ e. inl e) (λ d. inr (f b y d)) (c .1))) t
 
 -- one pair more
-pairs-grow : (pairs : List ℕ) (n x y : ℕ) → Chain (pairs-of pairs (suc n)) x y ↔ Through (Chain (pairs-of pairs n)) (first-of pairs n) (second-of pairs n) x y
+pub pairs-grow : (pairs : List ℕ) (n x y : ℕ) → Chain (pairs-of pairs (suc n)) x y ↔ Through (Chain (pairs-of pairs n)) (first-of pairs n) (second-of pairs n) x y
 unfolding pairs-of
 pairs-grow pairs n = chain-grows (pairs-of pairs n) (pairs-of pairs (suc n)) (first-of pairs n) (second-of pairs n) (ordered-append (pairs-of pairs n) (first-of pairs n) (second-of pairs n))
 
@@ -40,7 +40,7 @@ follows-old o a b x y c (inr u) = ⊎-elim (λ s. subst (λ i. Chain o i y) (sym
     tail = ⊎-elim (λ s. subst (Chain o a) s c) (λ s. join c s) (u .1)
 
 -- ---- the rows
-no-chain : {a b : ℕ} → Chain [] a b → ⊥
+pub no-chain : {a b : ℕ} → Chain [] a b → ⊥
 unfolding ordered
 no-chain (link t) = t
 no-chain (join s t) = no-chain s
