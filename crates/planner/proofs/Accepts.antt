@@ -53,13 +53,16 @@ from-at (suc n) f (suc i) l = from-at n (λ i. f (suc i)) i (le-of-suc-le-suc l)
 
 -- ---- the latest times of a grown book, in a row of 64
 tight-exists : (L : Listed) (grown : Book) → Grows L grown → Planned L → (row : List ℕ) × Tight grown row
-tight-exists L grown g p = (from 64 entry, record {
-  size = from-length 64 entry;
-  rest = λ i l. ⊎-elim (λ le. List·getD-eq-default (from 64 entry) 0 (omega (arith, from-length 64 entry))) (λ lt. from-at 64 entry i lt ∙ simp (le-ltb i (grown .size) l)) (le-or-lt 64 i);
-  latest = λ early e. latest-along 2 J J (λ i. i) (λ i. i) (reads-one L J J (g .reads) (g .reads)) (g .early) early (latest-of grown) (latest-of grown) (x .0) (row-in (from 64 entry))
-      (λ i l. earliest-one J early (g .early) e (g .earliest) i l) (λ i l. refl)
-      (λ i l. from-at 64 entry i (omega (arith, g .shaped .few)) ∙ simp (lt-ltb i (grown .size) l)) (x .1);
-})
+tight-exists L grown g p = (
+  from 64 entry,
+  record {
+    size = from-length 64 entry;
+    rest = λ i l. ⊎-elim (λ le. List·getD-eq-default (from 64 entry) 0 (omega (arith, from-length 64 entry))) (λ lt. from-at 64 entry i lt ∙ simp (le-ltb i (grown .size) l)) (le-or-lt 64 i);
+    latest = λ early e. latest-along 2 J J (λ i. i) (λ i. i) (reads-one L J J (g .reads) (g .reads)) (g .early) early (latest-of grown) (latest-of grown) (x .0) (row-in (from 64 entry))
+        (λ i l. earliest-one J early (g .early) e (g .earliest) i l) (λ i l. refl)
+        (λ i l. from-at 64 entry i (omega (arith, g .shaped .few)) ∙ simp (lt-ltb i (grown .size) l)) (x .1);
+  },
+)
   where
     J : Jobs
     J = jobs-of grown
@@ -75,9 +78,12 @@ tight-exists L grown g p = (from 64 entry, record {
 
 -- ---- rows joined by an order
 links-exist : (old : List ℕ) (a b : ℕ) → length old ≡ 64 → a < 64 → b < 64 → (new : List ℕ) × (length new ≡ 64) × Links a b old new
-links-exist old a b l la lb =
-    (from 64 joined, from-length 64 joined, links-by old (from 64 joined) a b more l (from-length 64 joined) lb (λ x. with-has (getD old a 0) a x la)
-    (λ y ly. subst (λ n. Joins (getD old y 0) y b more n) (sym (from-at 64 joined y ly)) (joins y)))
+links-exist old a b l la lb = (
+  from 64 joined,
+  from-length 64 joined,
+  links-by old (from 64 joined) a b more l (from-length 64 joined) lb (λ x. with-has (getD old a 0) a x la)
+      (λ y ly. subst (λ n. Joins (getD old y 0) y b more n) (sym (from-at 64 joined y ly)) (joins y)),
+)
   where
     more : ℕ
     more = bitOr (getD old a 0) (only a)
@@ -108,9 +114,13 @@ module _ (L : Listed) (k : Book) (t : Told k L) where
   -- a new job
   pub job-accepted : (s d : ℕ) → k .size < 64 → s ≤ 4095 → d ≤ 4096 → s < d → Planned (with-job L s d) → Accepts k (Job s d)
   job-accepted s d room low high less plan =
-      record { next = with-latest grown (x .0); value = k .size; applies = applies-by k (Job s d) r (L, t) (λ M u.
-      passed (λ f. omega (arith, size-is M k u)) (passed (λ f. ⊎-elim (λ g. omega arith) (λ g. omega arith) f) (passed (λ f. omega arith)
-      (subst (λ n. Judged (with-job M s d) n k r) (size-is M k u) (settled-judged (with-job M s d) k grown (k .size) r (job-grows M k u s d room low high) (fits (x .0) (x .1) refl)))))) }
+      record {
+        next = with-latest grown (x .0);
+        value = k .size;
+        applies = applies-by k (Job s d) r (L, t) (λ M u.
+            passed (λ f. omega (arith, size-is M k u)) (passed (λ f. ⊎-elim (λ g. omega arith) (λ g. omega arith) f) (passed (λ f. omega arith)
+            (subst (λ n. Judged (with-job M s d) n k r) (size-is M k u) (settled-judged (with-job M s d) k grown (k .size) r (job-grows M k u s d room low high) (fits (x .0) (x .1) refl))))));
+      }
     where
       grown : Book
       grown = record { size = k .size + 1; start = set (k .start) (k .size) s; latest = set (k .latest) (k .size) d; before = k .before }
@@ -147,7 +157,15 @@ module _ (L : Listed) (k : Book) (t : Told k L) where
       x = tight-exists (with-order L a b) grown (grows L t) plan
 
       go : T (has (getD (k .before) b 0) a) ⊎ (T (has (getD (k .before) b 0) a) → ⊥) → Accepts k (Before (record { 0 = a }) (record { 0 = b }))
-      go (inl old) = record { next = k; value = 0; applies = applies-by k _ _ (L, t) (λ M u.
-          passed (held M u) (passed (clear M u) (told-judged (with-order M a b) 0 k (acceptance k 0) refl (followed-told M k u a b la lb old)))) }
-      go (inr new) = record { next = with-latest grown (x .0); value = 0; applies = applies-by k _ _ (L, t) (λ M u.
-          passed (held M u) (passed (clear M u) (settled-judged (with-order M a b) k grown 0 (acceptance (with-latest grown (x .0)) 0) (grows M u) (fits (x .0) (x .1) refl)))) }
+      go (inl old) = record {
+        next = k;
+        value = 0;
+        applies = applies-by k _ _ (L, t) (λ M u.
+            passed (held M u) (passed (clear M u) (told-judged (with-order M a b) 0 k (acceptance k 0) refl (followed-told M k u a b la lb old))));
+      }
+      go (inr new) = record {
+        next = with-latest grown (x .0);
+        value = 0;
+        applies = applies-by k _ _ (L, t) (λ M u.
+            passed (held M u) (passed (clear M u) (settled-judged (with-order M a b) k grown 0 (acceptance (with-latest grown (x .0)) 0) (grows M u) (fits (x .0) (x .1) refl))));
+      }

@@ -3,14 +3,16 @@
 use mathlib.Core.Bool.{_||_}
 use mathlib.Core.List.{List, [], _∷_, _++_}
 use mathlib.Core.Logic.{_↔_, _⊎_, inl, inr, ⊎-elim}
-use mathlib.Core.Path.{_≡_, refl, sym, subst, _∙_}
+use mathlib.Core.Path.{_≡_, refl, sym, ap, subst, _∙_}
 use Prim.Native.Nat.{ℕ, zero, suc, _+_, _/_, _≤_, _<_}
+use native.Mathlib.Nat.{not-suc-le-zero, eq-or-lt-of-le}
 use native.Mathlib.Numerals.{add-one}
 use native.Mathlib.Omega.{arith}
 use lib.Dec.{T, eqb, eqb→eq}
 use lib.ListN.{length, getD, replicate}
 use Rattle.schedule.specs.Listed.{ordered, Chain, link, join}
 use Rattle.schedule.proofs.Tests.{lt-by, or-left, or-right, or-split, eq→eqb}
+use Rattle.schedule.proofs.Search.{split-last}
 use Rattle.schedule.proofs.Chains.{chain-grows, ordered-append}
 use Rattle.planner.specs.Sets.{has}
 use Rattle.planner.specs.Judged.{first-of, second-of, pairs-of, Looping}
@@ -30,6 +32,20 @@ through-map C D f a b x y t =
 pub pairs-grow : (pairs : List ℕ) (n x y : ℕ) → Chain (pairs-of pairs (suc n)) x y ↔ Through (Chain (pairs-of pairs n)) (first-of pairs n) (second-of pairs n) x y
 unfolding pairs-of
 pairs-grow pairs n = chain-grows (pairs-of pairs n) (pairs-of pairs (suc n)) (first-of pairs n) (second-of pairs n) (ordered-append (pairs-of pairs n) (first-of pairs n) (second-of pairs n))
+
+-- chains of the first pairs are chains of more
+pub pairs-more : (pairs : List ℕ) (n m : ℕ) → n ≤ m → (x y : ℕ) → Chain (pairs-of pairs n) x y → Chain (pairs-of pairs m) x y
+pairs-more pairs n zero l x y c = subst (λ k. Chain (pairs-of pairs k) x y) (omega arith) c
+pairs-more pairs n (suc m) l x y c =
+    ⊎-elim (λ e. subst (λ k. Chain (pairs-of pairs k) x y) e c) (λ h. pairs-grow pairs m x y .1 (inl (pairs-more pairs n m (omega arith) x y c))) (eq-or-lt-of-le l)
+
+-- a pair is in the list
+pub pairs-in : (pairs : List ℕ) (n p : ℕ) → p < n → T (ordered (pairs-of pairs n) (first-of pairs p) (second-of pairs p))
+unfolding pairs-of
+pairs-in pairs zero p l = absurd (not-suc-le-zero l)
+pairs-in pairs (suc n) p l =
+    ordered-append (pairs-of pairs n) (first-of pairs n) (second-of pairs n) (first-of pairs p) (second-of pairs p) .1
+    (⊎-elim (λ e. inr (ap (first-of pairs) e, ap (second-of pairs) e)) (λ h. inl (pairs-in pairs n p h)) (split-last l))
 
 -- what an order that already follows adds was there
 follows-old : (o : List (ℕ × ℕ)) (a b x y : ℕ) → Chain o a b → Through (Chain o) a b x y → Chain o x y

@@ -1,10 +1,10 @@
 -- The whole list at once is the requests one by one: its jobs, then its pairs. Each beginning of a list that has a plan has one, so none of them is refused.
 -- Assumes nothing.
 use mathlib.Core.List.{List, []}
-use mathlib.Core.Logic.{inl, inr, ⊎-elim}
+use mathlib.Core.Logic.{inl, inr}
 use mathlib.Core.Path.{_≡_, refl, sym, subst, _∙_}
 use Prim.Native.Nat.{ℕ, zero, suc, _/_, _≤_, _<_}
-use native.Mathlib.Nat.{le-of-eq, eq-or-lt-of-le}
+use native.Mathlib.Nat.{le-of-eq}
 use native.Mathlib.Omega.{arith}
 use lib.Dec.{T}
 use lib.ListN.{length, getD, take, replicate}
@@ -22,7 +22,7 @@ use Rattle.planner.specs.Outcome.{Planned, grow, Run, opened, asked}
 use Rattle.planner.specs.Judged.{first-of, second-of, pairs-of, list-of}
 use Rattle.planner.proofs.Once.{run-told}
 use Rattle.planner.proofs.Step.{told-nothing, size-is}
-use Rattle.planner.proofs.Pairs.{no-chain, pairs-grow, pairs-held, held-both}
+use Rattle.planner.proofs.Pairs.{no-chain, pairs-more, pairs-held, held-both}
 use Rattle.planner.proofs.Whole.{Sound}
 use Rattle.planner.proofs.Accepts.{Accepts, job-accepted, order-accepted}
 
@@ -48,12 +48,6 @@ planned-back M L f longer starts dues chains p =
 -- a run goes on by a request that is accepted
 run-on : (L : Listed) (k : Book) (q : Request) → Run L k → (a : Accepts k q) → Run (grow L q) (a .next)
 run-on L k q run a = asked L k q _ run (a .applies)
-
--- chains of the first pairs are chains of more
-pairs-more : (pairs : List ℕ) (n m : ℕ) → n ≤ m → (x y : ℕ) → Chain (pairs-of pairs n) x y → Chain (pairs-of pairs m) x y
-pairs-more pairs n zero l x y c = subst (λ k. Chain (pairs-of pairs k) x y) (omega arith) c
-pairs-more pairs n (suc m) l x y c =
-    ⊎-elim (λ e. subst (λ k. Chain (pairs-of pairs k) x y) e c) (λ h. pairs-grow pairs m x y .1 (inl (pairs-more pairs n m (omega arith) x y c))) (eq-or-lt-of-le l)
 
 module _ (starts deadlines pairs : List ℕ) (s : Sound starts deadlines pairs) (p : Planned (list-of starts deadlines pairs)) where
   -- the first n jobs; all jobs, and the first n pairs
@@ -90,7 +84,7 @@ module _ (starts deadlines pairs : List ℕ) (s : Sound starts deadlines pairs) 
       let size : k .0 .size ≡ n = size-is (begun n) (k .0) t ∙ length-take-le n starts (omega arith) in
       let sound = s .jobs n (omega arith) in
       let a = job-accepted (begun n) (k .0) t (getD starts n 0) (getD deadlines n 0) (omega (arith, s .few)) (le-by _ 4095 (λ g. sound (inl (inl g)))) (le-by _ 4096 (λ g. sound (inl (inr g))))
-          (lt-by _ _ (λ g. sound (inr g))) (subst Planned (sym (begun-more n l)) (begun-planned (suc n) l)) in
+      (lt-by _ _ (λ g. sound (inr g))) (subst Planned (sym (begun-more n l)) (begun-planned (suc n) l)) in
       (a .next, subst (λ L. Run L (a .next)) (begun-more n l) (run-on (begun n) (k .0) _ (k .1) a))
 
   run-pairs : (n : ℕ) → n ≤ length pairs / 2 → (k : Book) × Run (paired n) k
@@ -103,7 +97,7 @@ module _ (starts deadlines pairs : List ℕ) (s : Sound starts deadlines pairs) 
       let t = run-told (paired n) (k .0) (k .1) in
       let h = held-both (length starts) pairs (s .held) n (first-of pairs n) (second-of pairs n) l refl refl in
       let a = order-accepted (paired n) (k .0) t (first-of pairs n) (second-of pairs n) (omega (arith, h .0, size-is (paired n) (k .0) t)) (omega (arith, h .1, size-is (paired n) (k .0) t))
-          (s .free n l) (paired-planned (suc n) l) in
+      (s .free n l) (paired-planned (suc n) l) in
       (a .next, run-on (paired n) (k .0) _ (k .1) a)
 
   -- a run of requests that holds the whole list

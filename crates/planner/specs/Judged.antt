@@ -10,11 +10,12 @@ use lib.ListN.{length, getD}
 use Rattle.schedule.specs.Jobs.{Jobs}
 use Rattle.schedule.specs.Listed.{Listed, Chain}
 use Rattle.schedule.specs.Book.{Holds}
+use Rattle.planner.specs.declared.book.Book.{Book}
 use Rattle.planner.specs.declared.refusal.Answer.{Answer}
 use Rattle.planner.specs.declared.refusal.Answer.the-variants.{Accepted, Refused}
-use Rattle.planner.specs.Told.{row-in}
+use Rattle.planner.specs.Told.{row-in, latest-of, Told}
 use Rattle.planner.specs.Unless.{Unless, UnlessAt}
-use Rattle.planner.specs.Outcome.{Planned}
+use Rattle.planner.specs.Outcome.{Planned, Run}
 
 -- the jobs of a pair (01, The whole list at once: "pairs "first, second" laid flat")
 abbrev pub first-of : List ℕ → ℕ → ℕ
@@ -82,3 +83,10 @@ Judged-as starts deadlines pairs row =
 -- what judge promises: the row before and after, and the answer
 abbrev pub Judges : List ℕ → List ℕ → List ℕ → List ℕ → List ℕ → Answer → Type 0
 Judges starts deadlines pairs row after answer = Judged-as starts deadlines pairs row (record { answer = answer; row = after })
+
+-- the whole list at once is the requests one by one: what is accepted, a book can be brought to hold by requests alone;
+-- and, the form apart, what a book holds is accepted, with the same latest times (01, Requests on a book; The whole list at once)
+pub record AsRequests (starts deadlines pairs row : List ℕ) (r : Judgement) : Type 0 where
+  pub run : r .answer ≡ Accepted 0 → (k : Book) × Run (list-of starts deadlines pairs) k
+  pub accepted : (Misshapen starts deadlines pairs row → ⊥) → (k : Book) → Told k (list-of starts deadlines pairs) → r .answer ≡ Accepted 0
+  pub times : r .answer ≡ Accepted 0 → (k : Book) → Told k (list-of starts deadlines pairs) → (i : ℕ) → i < length starts → row-in (r .row) i ≡ latest-of k i
