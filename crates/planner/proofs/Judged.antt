@@ -12,6 +12,7 @@ use Rattle.schedule.specs.Listed.{Listed, Chain, link, join, written}
 use Rattle.schedule.proofs.Tests.{le-or-lt, le-by}
 use Rattle.planner.specs.declared.book.Book.{Book}
 use Rattle.planner.specs.declared.refusal.Answer.the-variants.{Accepted, Refused}
+use Rattle.planner.specs.Answer.{number-of}
 use Rattle.planner.specs.Told.{Told, jobs-of, latest-of, row-in}
 use Rattle.planner.specs.Unless.{Unless, refused, passed, UnlessAt, first, clear, One}
 use Rattle.planner.specs.Judged.{first-of, second-of, list-of, Misshapen, number-for, Judgement, turned-down, Fitted, Judged-as, AsRequests}
@@ -111,6 +112,17 @@ module _ (starts deadlines pairs : List ℕ) (k : Book) (t : Told k (list-of sta
         (unless-at-free _ _ _ _ r (s .free) (unless-at-free _ _ _ _ r (s .held .below) (unless-at-free _ _ _ _ r (s .jobs)
         (unless-free _ _ _ r (λ l. omega (arith, s .few)) (unless-free _ _ _ r m j)))))
 
+    -- so it is not refused by 4: a list refused by its form is not, and any other is accepted
+    told-not-4 : r .answer ≡ Refused 4 0 → ⊥
+    told-not-4 e = at (told-fitted (λ m. form m j))
+      where
+        at : Fitted L row r → ⊥
+        at f = let z : _≡_ {A = ℕ} 4 0 = ap number-of (sym e ∙ f .answer) in omega arith
+
+        form : Misshapen starts deadlines pairs row → Judged-as starts deadlines pairs row r → ⊥
+        form m (refused x y) = let z : _≡_ {A = ℕ} 4 7 = ap number-of (sym e ∙ ap (λ (x : Judgement). x .answer) y) in omega arith
+        form m (passed x y) = x m
+
     told-times : Fitted L row r → (i : ℕ) → i < length starts → row-in (r .row) i ≡ latest-of k i
     told-times f i l = holds-one 2 L (f .jobs) (jobs-of k) (row-in (r .row)) (latest-of k) (f .holds) (t .holds) i (omega (arith, f .holds .reads .size))
 
@@ -121,5 +133,6 @@ list-is-requests starts deadlines pairs row r j = record {
       let x = accepted-sound starts deadlines pairs row r j a in
       run-exists starts deadlines pairs (x .0) (holds-planned (list-of starts deadlines pairs) (x .1 .jobs) (row-in (r .row)) (x .1 .holds));
   accepted = λ m k t. told-fitted starts deadlines pairs k t row r j m .answer;
+  refused = λ e k t. told-not-4 starts deadlines pairs k t row r j e;
   times = λ a k t. told-times starts deadlines pairs k t row r j (accepted-sound starts deadlines pairs row r j a .1);
 }

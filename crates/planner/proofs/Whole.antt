@@ -16,7 +16,7 @@ use Rattle.schedule.proofs.Chains.{chain-held, reads-closed, reads-loopless}
 use Rattle.schedule.proofs.Renumber.{latest-along}
 use Rattle.planner.specs.declared.refusal.Answer.{Answer}
 use Rattle.planner.specs.Told.{jobs-in, row-in}
-use Rattle.planner.specs.Unless.{Unless, refused, passed, UnlessAt, first, clear}
+use Rattle.planner.specs.Unless.{Unless, refused, passed}
 use Rattle.planner.specs.Outcome.{Planned}
 use Rattle.planner.specs.Judged.{list-of, Unsound, number-for, Looping, turned-down, Fitted}
 use Rattle.planner.specs.Inner.List.{First, Numbers, Held, Spells, Settleable, Settles, none, fits}
@@ -24,17 +24,9 @@ use Rattle.planner.proofs.Same.{reads-one, plan-one}
 use Rattle.planner.proofs.Step.{holds-planned}
 use Rattle.planner.proofs.Pairs.{pairs-held, pairs-loopless}
 
--- ---- a check of every place stops at the first fault, or lets pass
-module _ (n : ℕ) (fault : ℕ → Type 0) (p : ℕ) (f : First n fault p) where
-  pub none-at : n ≤ p → (i : ℕ) → i < n → fault i → ⊥
-  none-at l i h = f .clear i (omega arith)
-
-  module _ {A : Type 0} (refusal : ℕ → A) (next : A → Type 0) (r : A) where
-    pub stops : p < n → r ≡ refusal p → UnlessAt n fault refusal next r
-    stops l e = first p l (f .clear) (f .at l) e
-
-    pub passes : n ≤ p → next r → UnlessAt n fault refusal next r
-    passes l x = clear (none-at l) x
+-- ---- a check of every place that found none
+pub none-at : (n : ℕ) (fault : ℕ → Type 0) (p : ℕ) → First n fault p → n ≤ p → (i : ℕ) → i < n → fault i → ⊥
+none-at n fault p f l i h = f .clear i (omega arith)
 
 -- the number of a job that has a fault
 pub number-is : (start deadline r : ℕ) → Numbers start deadline r → Unsound start deadline → r ≡ number-for start deadline

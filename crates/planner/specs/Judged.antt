@@ -84,9 +84,11 @@ Judged-as starts deadlines pairs row =
 abbrev pub Judges : List ℕ → List ℕ → List ℕ → List ℕ → List ℕ → Answer → Type 0
 Judges starts deadlines pairs row after answer = Judged-as starts deadlines pairs row (record { answer = answer; row = after })
 
--- the whole list at once is the requests one by one: what is accepted, a book can be brought to hold by requests alone;
--- and, the form apart, what a book holds is accepted, with the same latest times (01, Requests on a book; The whole list at once)
+-- the whole list at once is the requests one by one (01, The whole list at once; Requests on a book):
+-- what is accepted, a book can be brought to hold by requests alone; what a book holds is accepted, unless by its form,
+-- with the same latest times; and what is refused by 4, no book holds
 pub record AsRequests (starts deadlines pairs row : List ℕ) (r : Judgement) : Type 0 where
   pub run : r .answer ≡ Accepted 0 → (k : Book) × Run (list-of starts deadlines pairs) k
   pub accepted : (Misshapen starts deadlines pairs row → ⊥) → (k : Book) → Told k (list-of starts deadlines pairs) → r .answer ≡ Accepted 0
   pub times : r .answer ≡ Accepted 0 → (k : Book) → Told k (list-of starts deadlines pairs) → (i : ℕ) → i < length starts → row-in (r .row) i ≡ latest-of k i
+  pub refused : r .answer ≡ Refused 4 0 → (k : Book) → Told k (list-of starts deadlines pairs) → ⊥

@@ -6,11 +6,11 @@ use Prim.Native.Nat.{_/_}
 use native.Mathlib.Omega.{arith}
 use borrow.Author.Needs.{needs}
 use lib.ListN.{length}
-use Rattle.planner.specs.Unless.{refused, passed, clear}
+use Rattle.planner.specs.Unless.{refused, passed, first, clear}
 use Rattle.planner.specs.Judged.{Misshapen, turned-down}
 use Rattle.planner.specs.Inner.List.{Spells}
 use Rattle.planner.proofs.Pairs.{spells-none}
-use Rattle.planner.proofs.Whole.{none-at, stops, passes, number-is, Sound, sound-settleable, settles-judged, held-few}
+use Rattle.planner.proofs.Whole.{none-at, number-is, Sound, sound-settleable, settles-judged, held-few}
 use Rattle.planner.proofs.list.judge.Statement.{statement}
 use Rattle.planner.proofs.list.judge.Tie as tie
 
@@ -65,19 +65,22 @@ fault-requires c κs = search needs
 
 returns-5 : tie.Need-returns-5
 returns-5 c =
+    let a = c .before .before .before .before .before .before .before .before .before .before .before .before .before .args in
     let u = c .before .before .before .before .unsound-job in
     let l = c .before .before .before .if5 .taken in
-    passed (shape (c .before .before .before .before .before .before)) (passed (λ g. omega arith) (stops _ _ _ (u .ensures) _ _ _ l
-    (ap (λ n. turned-down (c .before .before .before .before .before .before .before .before .before .before .before .before .before .args .latest .now) n (u .result .0)) (number-is _ _ _ (c .fault .ensures) (u .ensures .at l)))))
+    passed (shape (c .before .before .before .before .before .before)) (passed (λ g. omega arith) (first (u .result .0) l (u .ensures .clear) (u .ensures .at l)
+    (ap (λ n. turned-down (a .latest .now) n (u .result .0)) (number-is _ _ _ (c .fault .ensures) (u .ensures .at l)))))
 
 unheld-pair-requires : tie.Need-unheld-pair-requires
 unheld-pair-requires c κs = search needs
 
 returns-6 : tie.Need-returns-6
 returns-6 c =
+    let u = c .before .unheld-pair in
+    let l = c .if6 .taken in
     passed (shape (c .before .before .before .before .before)) (passed (λ g. omega arith)
-    (passes _ _ _ (c .before .before .before .unsound-job .ensures) _ _ _ (c .before .before .if5 .left)
-    (stops _ _ _ (c .before .unheld-pair .ensures) _ _ _ (c .if6 .taken) refl)))
+    (clear (none-at _ _ _ (c .before .before .before .unsound-job .ensures) (c .before .before .if5 .left))
+    (first (u .result) l (u .ensures .clear) (u .ensures .at l) refl)))
 
 looping-pair-requires : tie.Need-looping-pair-requires
 looping-pair-requires c κs =
@@ -85,10 +88,12 @@ looping-pair-requires c κs =
 
 returns-7 : tie.Need-returns-7
 returns-7 c =
+    let u = c .before .looping-pair in
+    let l = c .if7 .taken in
     passed (shape (c .before .before .before .before .before .before .before .before)) (passed (λ g. omega arith)
-    (passes _ _ _ (c .before .before .before .before .before .before .unsound-job .ensures) _ _ _ (c .before .before .before .before .before .if5 .left)
-    (passes _ _ _ (c .before .before .before .before .unheld-pair .ensures) _ _ _ (c .before .before .before .if6 .left)
-    (stops _ _ _ (c .before .looping-pair .ensures .first) _ _ _ (c .if7 .taken) refl))))
+    (clear (none-at _ _ _ (c .before .before .before .before .before .before .unsound-job .ensures) (c .before .before .before .before .before .if5 .left))
+    (clear (none-at _ _ _ (c .before .before .before .before .unheld-pair .ensures) (c .before .before .before .if6 .left))
+    (first (u .result) l (u .ensures .first .clear) (u .ensures .first .at l) refl))))
 
 settle-requires : tie.Need-settle-requires
 settle-requires c κs = sound-settleable _ _ _ _ (sound (c .before .before)) (spells (c .before .before)) _ (search needs)
