@@ -12,7 +12,7 @@ use lib.Bits.{bitOr}
 use lib.Dec.{T, eqb, eqb→eq, ltb}
 use lib.ListN.{length, getD, set, List·getD-eq-default}
 use Rattle.schedule.specs.Jobs.{Jobs}
-use Rattle.schedule.specs.Times.{Earliest, Latest}
+use Rattle.schedule.specs.Times.{Latest}
 use Rattle.schedule.specs.Listed.{Listed, Chain, written, with-job, with-order}
 use Rattle.schedule.proofs.Tests.{test, le-or-lt, cond-case, or-left, or-right, or-split, eq→eqb}
 use Rattle.schedule.proofs.Exist.{plan-has-latest}
@@ -21,7 +21,6 @@ use Rattle.schedule.proofs.Renumber.{latest-along}
 use Rattle.planner.specs.declared.book.Book.{Book}
 use Rattle.planner.specs.declared.book.Request.{Request}
 use Rattle.planner.specs.declared.book.Request.the-variants.{Job, Before}
-use Rattle.planner.specs.declared.refusal.Answer.the-variants.{Accepted}
 use Rattle.planner.specs.declared.book.Applied.{Applied}
 use Rattle.planner.specs.Sets.{has}
 use Rattle.planner.specs.Told.{jobs-of, latest-of, row-in, Told}

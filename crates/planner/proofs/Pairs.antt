@@ -1,7 +1,7 @@
 -- Pairs laid flat, taken in one by one: the rows spell their chains, and no loop is closed.
 -- Assumes nothing.
 use mathlib.Core.Bool.{_||_}
-use mathlib.Core.List.{List, [], _∷_, _++_}
+use mathlib.Core.List.{List, []}
 use mathlib.Core.Logic.{_↔_, _⊎_, inl, inr, ⊎-elim}
 use mathlib.Core.Path.{_≡_, refl, sym, ap, subst, _∙_}
 use Prim.Native.Nat.{ℕ, zero, suc, _+_, _/_, _≤_, _<_}
@@ -16,7 +16,6 @@ use Rattle.schedule.proofs.Search.{split-last}
 use Rattle.schedule.proofs.Chains.{chain-grows, ordered-append}
 use Rattle.planner.specs.Sets.{has}
 use Rattle.planner.specs.Judged.{first-of, second-of, pairs-of, Looping}
-use Rattle.planner.specs.Inner.Chains.{Links}
 use Rattle.planner.specs.Inner.List.{Held, Spells, Follows}
 use Rattle.planner.proofs.Step.{zeros, none-has}
 

@@ -6,18 +6,15 @@ use mathlib.Core.Path.{_≡_, refl, sym, subst, _∙_}
 use Prim.Native.Nat.{ℕ, zero, suc, _/_, _≤_, _<_}
 use native.Mathlib.Nat.{le-of-eq}
 use native.Mathlib.Omega.{arith}
-use lib.Dec.{T}
 use lib.ListN.{length, getD, take, replicate}
 use lib.Seq.{take-suc, take-all, length-take-le, getD-take}
-use Rattle.schedule.specs.Jobs.{Jobs}
-use Rattle.schedule.specs.Listed.{Listed, ordered, Chain, link, join, Formed, Reads, written, with-job, with-order}
+use Rattle.schedule.specs.Listed.{Listed, ordered, Chain, Formed, Reads, written, with-job, with-order}
 use Rattle.schedule.specs.Grow.{Extends}
 use Rattle.schedule.proofs.Tests.{le-by, lt-by}
 use Rattle.schedule.proofs.Chains.{jobs, jobs-reads}
 use Rattle.schedule.proofs.Grow.{plan-back}
 use Rattle.planner.specs.declared.book.Book.{Book}
 use Rattle.planner.specs.declared.book.Request.{Request}
-use Rattle.planner.specs.Told.{Told}
 use Rattle.planner.specs.Outcome.{Planned, grow, Run, opened, asked}
 use Rattle.planner.specs.Judged.{first-of, second-of, pairs-of, list-of}
 use Rattle.planner.proofs.Once.{run-told}

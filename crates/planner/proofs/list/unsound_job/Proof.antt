@@ -1,6 +1,6 @@
 -- `planner::list::unsound_job` meets its contract. The invariant: no job passed has a fault.
 -- Assumes nothing.
-use Prim.Native.Nat.{ℕ, _<_, _-_, _≤_, _/_}
+use Prim.Native.Nat.{ℕ, _<_, _-_, _≤_}
 use native.Mathlib.Omega.{arith}
 use borrow.Author.Count.{below-none, below-more}
 use borrow.Author.Needs.{needs}
