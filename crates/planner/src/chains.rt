@@ -1,6 +1,6 @@
 // Which job precedes which: row b is the set of jobs that precede job b, and the rows are closed under chains.
-use schedule::JobIndex;
 use crate::sets;
+use schedule::JobIndex;
 ghost use Prim.Native.Nat.{_<_};
 ghost use Rattle.planner.specs.Inner.Chains.{Links, Joins};
 

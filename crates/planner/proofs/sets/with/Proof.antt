@@ -5,7 +5,6 @@ use borrow.Author.Needs.{needs}
 use Rattle.planner.proofs.sets.with.Statement.{statement}
 use Rattle.planner.proofs.sets.with.Tie as tie
 
-
 shl-result : tie.Need-shl-result
 shl-result c = search needs
 

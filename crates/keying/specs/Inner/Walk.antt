@@ -1,0 +1,2 @@
+-- What the walks over a text promise.
+-- Assumes nothing.
