@@ -3,22 +3,91 @@ use crate::entry::Record;
 use crate::entry::Said;
 use crate::entry::Slip;
 use crate::reader;
-use crate::reader::Reader;
 ghost use mathlib.Core.Path.{_≡_};
-ghost use lib.ListN.{getD};
+ghost use Prim.Native.Nat.{_+_, _*_, _/_, _%_, _≤_};
+ghost use lib.ListN.{length, getD};
+ghost use lib.Seq.{sets};
 ghost use Rattle.keying.specs.Text.{meaning};
-ghost use Rattle.keying.specs.Keys.{Keys};
+ghost use Rattle.keying.specs.File.{record-bytes};
+ghost use Rattle.keying.specs.Keys.{Keys, left};
+ghost use Rattle.keying.specs.Inner.Walk.{checked, Room};
 
-// Bytes written; line and slip; bytes needed.
 pub enum Keyed {
+    // bytes written
     Written(usize),
+    // line, counted from 1
     Mistake(usize, Slip),
+    // bytes needed
     Short(usize),
 }
 
 pub enum Checked {
-    Records(usize),
+    Sound(usize),
     Wrong(usize, Slip),
+}
+
+// The job file of a keyed text, from the first of the bytes lent.
+pub fn key(text: &[u8], out: &mut [u8]) -> Keyed
+    ensures { λ r. ⌜ Keys (now (text .entry)) (now (out .entry)) r (now (out .exit)) ⌝ }
+{
+    match check(text) {
+        Checked::Wrong(line, slip) => Keyed::Mistake(line, slip),
+        Checked::Sound(count) => {
+            let needed = 6 * count;
+            if needed <= out.len() {
+                write(text, out);
+                Keyed::Written(needed)
+            } else {
+                Keyed::Short(needed)
+            }
+        }
+    }
+}
+
+// How many records the text has, or its first mistake.
+fn check(text: &[u8]) -> Checked
+    ensures { λ r. ⌜ r ≡ checked (meaning (now (text .entry))) ⌝ }
+{
+    let mut reader = reader::fresh(1);
+    let mut count: usize = 0;
+    let mut i: usize = 0;
+    while i <= text.len() {
+        let byte = byte_at(text, i);
+        match reader::says(reader, byte) {
+            Said::Nothing => {}
+            Said::Told(_) => {
+                if count >= 4096 {
+                    return Checked::Wrong(reader.line, Slip::TooMany);
+                }
+                count += 1;
+            }
+            Said::Wrong(slip) => {
+                return Checked::Wrong(reader.line, slip);
+            }
+        }
+        reader = reader::after(reader, byte);
+        i += 1;
+    }
+    Checked::Sound(count)
+}
+
+// Writes the records of a text that has no mistake.
+fn write(text: &[u8], out: &mut [u8])
+    requires { ⌜ Room (meaning (now text)) (now out) ⌝ }
+    ensures { λ _. ⌜ now (out .exit) ≡ left (meaning (now (text .entry))) (now (out .entry)) ⌝ }
+{
+    let mut reader = reader::fresh(1);
+    let mut at: usize = 0;
+    let mut i: usize = 0;
+    while i <= text.len() {
+        let byte = byte_at(text, i);
+        if let Said::Told(record) = reader::says(reader, byte) {
+            store(out, at, record);
+            at += 6;
+        }
+        reader = reader::after(reader, byte);
+        i += 1;
+    }
 }
 
 // The byte at a place; a newline past the end, where the last line ends.
@@ -31,6 +100,27 @@ fn byte_at(text: &[u8], i: usize) -> u8
     b'\n'
 }
 
-pub fn key(text: &[u8], out: &mut [u8]) -> Keyed {
-    Keyed::Written(0)
+// The six bytes of a record.
+fn store(out: &mut [u8], at: usize, record: Record)
+    requires { ⌜ at + 6 ≤ length (now out) ⌝ }
+    ensures { λ _. ⌜ now (out .exit) ≡ sets (now (out .entry)) at (record-bytes record) ⌝ }
+{
+    out[at] = high(record.mark);
+    out[at + 1] = low(record.mark);
+    out[at + 2] = high(record.first);
+    out[at + 3] = low(record.first);
+    out[at + 4] = high(record.second);
+    out[at + 5] = low(record.second);
+}
+
+fn high(number: u16) -> u8
+    ensures { λ r. ⌜ r ≡ number / 256 ⌝ }
+{
+    (number / 256) as u8
+}
+
+fn low(number: u16) -> u8
+    ensures { λ r. ⌜ r ≡ number % 256 ⌝ }
+{
+    (number % 256) as u8
 }
