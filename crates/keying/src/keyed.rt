@@ -81,8 +81,8 @@ fn write(text: &[u8], out: &mut [u8])
     let mut i: usize = 0;
     while i <= text.len() {
         let byte = byte_at(text, i);
-        if let Said::Told(record) = reader::says(reader, byte) {
-            store(out, at, record);
+        if let Said::Told(told) = reader::says(reader, byte) {
+            store(out, at, told);
             at += 6;
         }
         reader = reader::after(reader, byte);
@@ -101,16 +101,16 @@ fn byte_at(text: &[u8], i: usize) -> u8
 }
 
 // The six bytes of a record.
-fn store(out: &mut [u8], at: usize, record: Record)
+fn store(out: &mut [u8], at: usize, told: Record)
     requires { ⌜ at + 6 ≤ length (now out) ⌝ }
-    ensures { λ _. ⌜ now (out .exit) ≡ sets (now (out .entry)) at (record-bytes record) ⌝ }
+    ensures { λ _. ⌜ now (out .exit) ≡ sets (now (out .entry)) at (record-bytes told) ⌝ }
 {
-    out[at] = high(record.mark);
-    out[at + 1] = low(record.mark);
-    out[at + 2] = high(record.first);
-    out[at + 3] = low(record.first);
-    out[at + 4] = high(record.second);
-    out[at + 5] = low(record.second);
+    out[at] = high(told.mark);
+    out[at + 1] = low(told.mark);
+    out[at + 2] = high(told.first);
+    out[at + 3] = low(told.first);
+    out[at + 4] = high(told.second);
+    out[at + 5] = low(told.second);
 }
 
 fn high(number: u16) -> u8
