@@ -2,3 +2,4 @@
 pub mod Lists
 pub mod Shown
 pub mod Walk
+pub mod Bytes

@@ -65,17 +65,12 @@ abbrev byte : List ℕ → ℕ → ℕ
 byte text i = getD text i 10
 
 -- the records with what was said
-pub kept : List Record → Said → List Record
+abbrev pub kept : List Record → Said → List Record
 kept done Nothing = done
 kept done (Told t) = done ++ (t ∷ [])
 kept done (Wrong slip) = done
 
-pub kept-told : (done : List Record) (t : Record) → kept done (Told t) ≡ done ++ (t ∷ [])
-unfolding kept
-kept-told done t = refl
-
 kept-grows : (done : List Record) (said : Said) → length done ≤ length (kept done said)
-unfolding kept
 kept-grows done Nothing = omega arith
 kept-grows done (Told t) = simp length-append (omega arith)
 kept-grows done (Wrong slip) = omega arith
@@ -83,7 +78,7 @@ kept-grows done (Wrong slip) = omega arith
 -- where there is no mistake, whatever is said leads on
 goes-on : (done : List Record) (line : ℕ) (said : Said) (next : List Record → Meaning) (all : List Record)
     → heard done line said next ≡ records all → next (kept done said) ≡ records all
-unfolding heard kept
+unfolding heard
 goes-on done line Nothing next all e = e
 goes-on done line (Told t) next all e = go (ltb (length done) 4096) e
   where
