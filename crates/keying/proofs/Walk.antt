@@ -12,7 +12,7 @@ use native.Mathlib.Nat.{lt-of-not-le, le-trans}
 use lib.Dec.{eqb, ltb}
 use lib.ListN.{length, getD, drop, length-append, List·getD-append, List·getD-eq-default}
 use lib.Seq.{drop-cons, drop-length, getD-append-seam}
-use borrow.Author.Tests.{lt-ltb, le-ltb}
+use borrow.Author.Tests.{lt-ltb, le-ltb, ltb-true}
 use Rattle.keying.specs.Text.{Page, Meaning, records, mistake, fresh, says, turn, heard, read, meaning, blank}
 use Rattle.keying.specs.Inner.Machine.{blank-reader, reader-says, reader-after}
 use Rattle.keying.specs.declared.entry.Record.{Record}
@@ -21,6 +21,9 @@ use Rattle.keying.specs.declared.entry.Slip.the-variants.{TooMany}
 use Rattle.keying.specs.declared.entry.Said.{Said}
 use Rattle.keying.specs.declared.entry.Said.the-variants.{Nothing, Told, Wrong}
 use Rattle.keying.specs.declared.reader.Reader.{Reader}
+use Rattle.keying.specs.Inner.Walk.{checked}
+use Rattle.keying.specs.declared.keyed.Checked.the-variants.{Sound}
+use Rattle.keying.specs.declared.keyed.Checked.the-variants as Checked'
 use Rattle.keying.proofs.Shown.{shown, line-shown, fresh-shown, says-shown, turn-shown}
 
 -- the text with the newline that ends its last line
@@ -145,3 +148,39 @@ grows (b ∷ rest) done p all e =
 
 pub fits-all : (text : List ℕ) (reader : Reader) (i : ℕ) (done all : List Record) → Reached text reader i done → meaning text ≡ records all → length done ≤ length all
 fits-all text reader i done all w e = grows (drop i (lined text)) done (w .page) all (w .onward ∙ e)
+
+-- no more than 4,096
+kept-few : (done : List Record) (line : ℕ) (said : Said) (next : List Record → Meaning) (all : List Record)
+    → heard done line said next ≡ records all → length done ≤ 4096 → length (kept done said) ≤ 4096
+unfolding heard
+kept-few done line Nothing next all e h = h
+kept-few done line (Told t) next all e h = go (ltb (length done) 4096) refl e
+  where
+    go : (few : Bool) → ltb (length done) 4096 ≡ few → cond few (next (done ++ (t ∷ []))) (mistake line TooMany) ≡ records all
+        → length (done ++ (t ∷ [])) ≤ 4096
+    go true q e = simp length-append (omega (arith, ltb-true (length done) 4096 q))
+    go false q e = absurd (let z : _≡_ {A = ℕ} 0 1 = cc in omega arith)
+kept-few done line (Wrong slip) next all e h = h
+
+few : (rest : List ℕ) (done : List Record) (p : Page) (all : List Record) → read done p rest ≡ records all → length done ≤ 4096 → length all ≤ 4096
+unfolding read
+few [] done p all e h = let same : done ≡ all = cc in rw (← same) h
+few (b ∷ rest) done p all e h =
+    let next : List Record → Meaning = λ more. read more (turn p b) rest in
+    few rest (kept done (says p b)) (turn p b) all (goes-on done (p .line) (says p b) next all e) (kept-few done (p .line) (says p b) next all e h)
+
+-- a text means no more than 4,096 records (01, Numbers and limits)
+pub meaning-few : (text : List ℕ) (all : List Record) → meaning text ≡ records all → length all ≤ 4096
+unfolding meaning
+meaning-few text all e = few (lined text) [] (fresh 1) all e (omega arith)
+
+-- what a check told
+pub sound-all : (m : Meaning) (n : ℕ) → checked m ≡ Sound n → (all : List Record) × (m ≡ records all) × (length all ≡ n)
+unfolding checked
+sound-all (records all) n e = (all, refl, cc)
+sound-all (mistake line slip) n e = absurd (let z : _≡_ {A = ℕ} 0 1 = cc in omega arith)
+
+pub wrong-first : (m : Meaning) (line : ℕ) (slip : Slip) → checked m ≡ Checked'.Wrong line slip → m ≡ mistake line slip
+unfolding checked
+wrong-first (records all) line slip e = absurd (let z : _≡_ {A = ℕ} 0 1 = cc in omega arith)
+wrong-first (mistake l s) line slip e = cc
