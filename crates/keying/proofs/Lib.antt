@@ -3,3 +3,4 @@ pub mod Lists
 pub mod Shown
 pub mod Walk
 pub mod Bytes
+pub mod Outcome
