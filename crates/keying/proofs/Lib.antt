@@ -3,4 +3,5 @@ pub mod Lists
 pub mod Shown
 pub mod Walk
 pub mod Bytes
+pub mod Round
 pub mod Outcome

@@ -5,7 +5,7 @@ use mathlib.Core.Path.{sym}
 use Prim.Native.Nat.{_≤_}
 use lib.ListN.{length}
 use lib.Seq.{length-take-le}
-use Rattle.keying.proofs.Outcome.{written-within}
+use Rattle.keying.proofs.Outcome.{filed}
 use Rattle.keyin.proofs.main.Statement.{statement}
 use Rattle.keyin.proofs.main.Tie as tie
 
@@ -42,7 +42,7 @@ enum-known-size c = search needs
 within : (c : tie.After-size) → c .size .given .0 .0 ≤ length (c .before .before .before .key .last .1 .0)
 within c =
     let k = c .before .before .before .key in
-    rw (k .kept .1 .0) (written-within _ _ _ (c .size .given .0 .0) (rw (c .size .given .1) at (k .ensures)))
+    rw (k .kept .1 .0) (filed _ _ (c .size .given .0 .0) _ (rw (c .size .given .1) at (k .ensures)) .within)
 
 array-share-prefix-file : tie.Need-array-share-prefix-file
 array-share-prefix-file c = within (c .before)
