@@ -4,15 +4,11 @@ use keying::Slip;
 use libc::STDERR_FILENO;
 use libc::STDOUT_FILENO;
 
-// 256 KiB of text, and one byte more to tell a longer one.
+// One byte more than the longest text, to tell a longer one; a full file of 4,096 records always fits.
 fn main() {
     let mut text = [0u8; 262145];
     let mut file = [0u8; 24576];
     let n = io::read_full(0, &mut text);
-    if n > 262144 {
-        io::write_all(STDERR_FILENO, b"text longer than 262144 bytes\n");
-        return;
-    }
     match keying::key(&text[..n], &mut file) {
         Keyed::Written(size) => {
             io::write_all(STDOUT_FILENO, &file[..size]);
@@ -43,6 +39,9 @@ fn tell(line: usize, slip: Slip) {
         }
         Slip::TooMany => {
             io::write_all(STDERR_FILENO, b": too many records\n");
+        }
+        Slip::TooLong => {
+            io::write_all(STDERR_FILENO, b": text too long\n");
         }
     }
 }

@@ -10,14 +10,14 @@ use native.Mathlib.Omega.{arith}
 use native.Mathlib.Decide.{decLe}
 use native.Mathlib.Nat.{lt-of-not-le, le-trans}
 use lib.Dec.{eqb, ltb}
-use lib.ListN.{length, getD, drop, length-append, List·getD-append, List·getD-eq-default}
+use lib.ListN.{length, getD, take, drop, length-append, List·getD-append, List·getD-eq-default}
 use lib.Seq.{drop-cons, drop-length, getD-append-seam}
-use borrow.Author.Tests.{lt-ltb, le-ltb, ltb-true}
-use Rattle.keying.specs.Text.{Page, Meaning, records, mistake, fresh, says, turn, heard, read, meaning, blank}
+use borrow.Author.Tests.{lt-ltb, le-ltb, ltb-true, le-leb, lt-leb}
+use Rattle.keying.specs.Text.{Page, Meaning, records, mistake, fresh, says, turn, heard, read, reading, last-line, meaning, blank}
 use Rattle.keying.specs.Inner.Machine.{blank-reader, reader-says, reader-after}
 use Rattle.keying.specs.declared.entry.Record.{Record}
 use Rattle.keying.specs.declared.entry.Slip.{Slip}
-use Rattle.keying.specs.declared.entry.Slip.the-variants.{TooMany}
+use Rattle.keying.specs.declared.entry.Slip.the-variants.{TooMany, TooLong}
 use Rattle.keying.specs.declared.entry.Said.{Said}
 use Rattle.keying.specs.declared.entry.Said.the-variants.{Nothing, Told, Wrong}
 use Rattle.keying.specs.declared.reader.Reader.{Reader}
@@ -34,11 +34,11 @@ lined text = text ++ (10 ∷ [])
 pub record Reached (text : List ℕ) (reader : Reader) (i : ℕ) (done : List Record) : Type 0 where
   pub page : Page
   pub shows : reader ≡ shown page
-  pub onward : read done page (drop i (text ++ (10 ∷ []))) ≡ meaning text
+  pub onward : read done page (drop i (text ++ (10 ∷ []))) ≡ reading text
   pub line : reader .line ≤ i + 1
 
 pub reached-start : (text : List ℕ) → Reached text (blank-reader 1) 0 []
-unfolding meaning blank-reader
+unfolding reading blank-reader
 reached-start text = record { page = fresh 1; shows = fresh-shown 1; onward = refl; line = omega arith }
 
 -- the byte at i, and the rest
@@ -92,15 +92,15 @@ goes-on done line (Wrong slip) next all e = absurd (let z : _≡_ {A = ℕ} 0 1 
 
 module _ (text : List ℕ) (reader : Reader) (i : ℕ) (done : List Record) (w : Reached text reader i done) (h : i ≤ length text) where
   hears : (said : Said) → reader-says reader (byte text i) ≡ said
-      → heard done (reader .line) said (λ more. read more (turn (w .page) (byte text i)) (drop (i + 1) (lined text))) ≡ meaning text
+      → heard done (reader .line) said (λ more. read more (turn (w .page) (byte text i)) (drop (i + 1) (lined text))) ≡ reading text
   unfolding read
   hears said e =
       let s : says (w .page) (byte text i) ≡ said = sym (says-shown (w .page) (byte text i)) ∙ ap (λ (r : Reader). reader-says r (byte text i)) (sym (w .shows)) ∙ e in
       let l : w .page .line ≡ reader .line = sym (line-shown (w .page)) ∙ ap (λ (r : Reader). r .line) (sym (w .shows)) in
-      let o : read done (w .page) (byte text i ∷ drop (i + 1) (lined text)) ≡ meaning text = rw (cut text i h) at (w .onward) in
+      let o : read done (w .page) (byte text i ∷ drop (i + 1) (lined text)) ≡ reading text = rw (cut text i h) at (w .onward) in
       rw (← s, ← l) o
 
-  next : (more : List Record) → read more (turn (w .page) (byte text i)) (drop (i + 1) (lined text)) ≡ meaning text
+  next : (more : List Record) → read more (turn (w .page) (byte text i)) (drop (i + 1) (lined text)) ≡ reading text
       → Reached text (reader-after reader (byte text i)) (i + 1) more
   next more e = record {
     page = turn (w .page) (byte text i);
@@ -118,25 +118,25 @@ module _ (text : List ℕ) (reader : Reader) (i : ℕ) (done : List Record) (w :
   unfolding heard
   on-told t e few = next (done ++ (t ∷ [])) (rw (lt-ltb (length done) 4096 few) at (hears (Told t) e))
 
-  pub too-many : (t : Record) → reader-says reader (byte text i) ≡ Told t → 4096 ≤ length done → meaning text ≡ mistake (reader .line) TooMany
+  pub too-many : (t : Record) → reader-says reader (byte text i) ≡ Told t → 4096 ≤ length done → reading text ≡ mistake (reader .line) TooMany
   unfolding heard
   too-many t e many = sym (rw (le-ltb (length done) 4096 many) at (hears (Told t) e))
 
-  pub at-wrong : (slip : Slip) → reader-says reader (byte text i) ≡ Wrong slip → meaning text ≡ mistake (reader .line) slip
+  pub at-wrong : (slip : Slip) → reader-says reader (byte text i) ≡ Wrong slip → reading text ≡ mistake (reader .line) slip
   unfolding heard
   at-wrong slip e = sym (hears (Wrong slip) e)
 
-  pub on-sound : (all : List Record) → meaning text ≡ records all → (said : Said) → reader-says reader (byte text i) ≡ said
+  pub on-sound : (all : List Record) → reading text ≡ records all → (said : Said) → reader-says reader (byte text i) ≡ said
       → Reached text (reader-after reader (byte text i)) (i + 1) (kept done said)
   on-sound all sound said e =
       next (kept done said)
       (goes-on done (reader .line) said (λ more. read more (turn (w .page) (byte text i)) (drop (i + 1) (lined text))) all (hears said e ∙ sound) ∙ sym sound)
 
-pub at-end : (text : List ℕ) (reader : Reader) (i : ℕ) (done : List Record) → Reached text reader i done → i ≡ length text + 1 → meaning text ≡ records done
+pub at-end : (text : List ℕ) (reader : Reader) (i : ℕ) (done : List Record) → Reached text reader i done → i ≡ length text + 1 → reading text ≡ records done
 unfolding read
 at-end text reader i done w e =
     let l : i ≡ length (lined text) = e ∙ sym (length-append text (10 ∷ [])) in
-    let o : read done (w .page) (drop (length (lined text)) (lined text)) ≡ meaning text = rw (← l) (w .onward) in
+    let o : read done (w .page) (drop (length (lined text)) (lined text)) ≡ reading text = rw (← l) (w .onward) in
     sym (rw (drop-length (lined text)) at o)
 
 -- records found are kept
@@ -146,7 +146,7 @@ grows [] done p all e = let same : done ≡ all = cc in rw same (omega arith)
 grows (b ∷ rest) done p all e =
     le-trans (kept-grows done (says p b)) (grows rest (kept done (says p b)) (turn p b) all (goes-on done (p .line) (says p b) (λ more. read more (turn p b) rest) all e))
 
-pub fits-all : (text : List ℕ) (reader : Reader) (i : ℕ) (done all : List Record) → Reached text reader i done → meaning text ≡ records all → length done ≤ length all
+pub fits-all : (text : List ℕ) (reader : Reader) (i : ℕ) (done all : List Record) → Reached text reader i done → reading text ≡ records all → length done ≤ length all
 fits-all text reader i done all w e = grows (drop i (lined text)) done (w .page) all (w .onward ∙ e)
 
 -- no more than 4,096
@@ -170,9 +170,9 @@ few (b ∷ rest) done p all e h =
     few rest (kept done (says p b)) (turn p b) all (goes-on done (p .line) (says p b) next all e) (kept-few done (p .line) (says p b) next all e h)
 
 -- a text means no more than 4,096 records (01, Numbers and limits)
-pub meaning-few : (text : List ℕ) (all : List Record) → meaning text ≡ records all → length all ≤ 4096
-unfolding meaning
-meaning-few text all e = few (lined text) [] (fresh 1) all e (omega arith)
+pub reading-few : (text : List ℕ) (all : List Record) → reading text ≡ records all → length all ≤ 4096
+unfolding reading
+reading-few text all e = few (lined text) [] (fresh 1) all e (omega arith)
 
 -- what a check told
 pub sound-all : (m : Meaning) (n : ℕ) → checked m ≡ Sound n → (all : List Record) × (m ≡ records all) × (length all ≡ n)
@@ -184,3 +184,12 @@ pub wrong-first : (m : Meaning) (line : ℕ) (slip : Slip) → checked m ≡ Che
 unfolding checked
 wrong-first (records all) line slip e = absurd (let z : _≡_ {A = ℕ} 0 1 = cc in omega arith)
 wrong-first (mistake l s) line slip e = cc
+
+-- a text that is not too long means what it reads as
+pub as-read : (text : List ℕ) → length text ≤ 262144 → meaning text ≡ reading text
+unfolding meaning
+as-read text h = simp (le-leb (length text) 262144 h)
+
+pub too-long : (text : List ℕ) → 262144 < length text → meaning text ≡ mistake (last-line (take 262144 text)) TooLong
+unfolding meaning
+too-long text h = simp (lt-leb (length text) 262144 h)

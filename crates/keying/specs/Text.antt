@@ -5,10 +5,10 @@ use mathlib.Core.Bool.{Bool, true, false, cond, _&&_, _||_}
 use mathlib.Core.List.{List, [], _∷_, _++_}
 use Prim.Native.Nat.{ℕ, _+_, _-_, _*_}
 use lib.Dec.{eqb, leb, ltb}
-use lib.ListN.{length}
+use lib.ListN.{length, take}
 use Rattle.keying.specs.declared.entry.Record.{Record}
 use Rattle.keying.specs.declared.entry.Slip.{Slip}
-use Rattle.keying.specs.declared.entry.Slip.the-variants.{UnknownWord, MissingField, ExtraField, NotNumber, TooLarge, TooMany}
+use Rattle.keying.specs.declared.entry.Slip.the-variants.{UnknownWord, MissingField, ExtraField, NotNumber, TooLarge, TooMany, TooLong}
 use Rattle.keying.specs.declared.entry.Said.{Said}
 use Rattle.keying.specs.declared.entry.Said.the-variants.{Nothing, Told, Wrong}
 
@@ -106,5 +106,14 @@ read done p [] = records done
 read done p (b ∷ rest) = heard done (p .line) (says p b) (λ more. read more (turn p b) rest)
 
 -- the end of the text ends its last line
+unfoldable pub reading : List ℕ → Meaning
+reading text = read [] (fresh 1) (text ++ (10 ∷ []))
+
+-- the line on which a text ends
+unfoldable pub last-line : List ℕ → ℕ
+last-line [] = 1
+last-line (b ∷ text) = cond (eqb b 10) (last-line text + 1) (last-line text)
+
+-- a text of more than 262,144 bytes is too long on the line where it passes them
 unfoldable pub meaning : List ℕ → Meaning
-meaning text = read [] (fresh 1) (text ++ (10 ∷ []))
+meaning text = cond (leb (length text) 262144) (reading text) (mistake (last-line (take 262144 text)) TooLong)

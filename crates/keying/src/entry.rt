@@ -12,7 +12,7 @@ pub struct Record {
     pub second: u16,
 }
 
-// What can be wrong with an entry.
+// What can be wrong with an entry, and with a text.
 pub enum Slip {
     UnknownWord,
     MissingField,
@@ -20,6 +20,7 @@ pub enum Slip {
     NotNumber,
     TooLarge,
     TooMany,
+    TooLong,
 }
 
 pub enum Said {

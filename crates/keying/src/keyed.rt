@@ -2,12 +2,13 @@
 use crate::entry::Record;
 use crate::entry::Said;
 use crate::entry::Slip;
+use crate::line;
 use crate::reader;
 ghost use mathlib.Core.Path.{_≡_};
 ghost use Prim.Native.Nat.{_+_, _*_, _/_, _%_, _≤_};
 ghost use lib.ListN.{length, getD};
 ghost use lib.Seq.{sets};
-ghost use Rattle.keying.specs.Text.{meaning};
+ghost use Rattle.keying.specs.Text.{reading};
 ghost use Rattle.keying.specs.File.{record-bytes};
 ghost use Rattle.keying.specs.Keys.{Keys, left};
 ghost use Rattle.keying.specs.Inner.Walk.{checked, Room};
@@ -30,6 +31,9 @@ pub enum Checked {
 pub fn key(text: &[u8], out: &mut [u8]) -> Keyed
     ensures { λ r. ⌜ Keys (now (text .entry)) (now (out .entry)) r (now (out .exit)) ⌝ }
 {
+    if text.len() > 262144 {
+        return Keyed::Mistake(line::last(&text[..262144]), Slip::TooLong);
+    }
     match check(text) {
         Checked::Wrong(line, slip) => Keyed::Mistake(line, slip),
         Checked::Sound(count) => {
@@ -46,7 +50,7 @@ pub fn key(text: &[u8], out: &mut [u8]) -> Keyed
 
 // How many records the text has, or its first mistake.
 fn check(text: &[u8]) -> Checked
-    ensures { λ r. ⌜ r ≡ checked (meaning (now (text .entry))) ⌝ }
+    ensures { λ r. ⌜ r ≡ checked (reading (now (text .entry))) ⌝ }
 {
     let mut reader = reader::fresh(1);
     let mut count: usize = 0;
@@ -73,8 +77,8 @@ fn check(text: &[u8]) -> Checked
 
 // Writes the records of a text that has no mistake.
 fn write(text: &[u8], out: &mut [u8])
-    requires { ⌜ Room (meaning (now text)) (now out) ⌝ }
-    ensures { λ _. ⌜ now (out .exit) ≡ left (meaning (now (text .entry))) (now (out .entry)) ⌝ }
+    requires { ⌜ Room (reading (now text)) (now out) ⌝ }
+    ensures { λ _. ⌜ now (out .exit) ≡ left (reading (now (text .entry))) (now (out .entry)) ⌝ }
 {
     let mut reader = reader::fresh(1);
     let mut at: usize = 0;
