@@ -7,13 +7,14 @@ use Prim.Native.Nat.{ℕ, _*_, _≤_, _<_}
 use native.Mathlib.Omega.{arith}
 use lib.Dec.{leb}
 use lib.ListN.{length, getD, drop}
-use borrow.Author.Tests.{leb-true}
+use borrow.Author.Tests.{leb-true, le-leb}
 use Rattle.keying.specs.Text.{Meaning, records, mistake, meaning}
 use Rattle.keying.specs.File.{file-bytes, record-at}
 use Rattle.keying.specs.Keys.{Keys, answered, left}
 use Rattle.keying.specs.declared.entry.Record.{Record}
 use Rattle.keying.specs.declared.keyed.Keyed.{Keyed}
 use Rattle.keying.specs.declared.keyed.Keyed.the-variants.{Written, Short}
+use Rattle.keying.proofs.Walk.{meaning-few}
 use Rattle.keying.proofs.Round.{no-record, reads-back}
 
 -- no second outcome meets the promise
@@ -47,3 +48,15 @@ filed text out n after k = go (meaning text) refl (k .answer) (k .bytes)
 pub keyed-back : (text out : List ℕ) (n : ℕ) (after : List ℕ) (f : Filed text out n after) (i : ℕ) → i < length (f .all)
     → record-at after (6 * i) ≡ getD (f .all) i no-record
 keyed-back text out n after f i h = rw (f .file) (reads-back (f .all) (drop (6 * length (f .all)) out) i h)
+
+-- bytes for 4,096 records are never too few (01, Numbers and limits: "at most 24,576 bytes")
+pub never-short : (text out : List ℕ) (n : ℕ) (after : List ℕ) → 24576 ≤ length out → Keys text out (Short n) after → ⊥
+unfolding answered
+never-short text out n after h k = go (meaning text) (meaning-few text) (k .answer)
+  where
+    go : (m : Meaning) → ((all : List Record) → m ≡ records all → length all ≤ 4096) → Short n ≡ answered m out → ⊥
+    go (records rs) few e =
+        let fits : 6 * length rs ≤ length out = omega (arith, few rs refl) in
+        let z : _≡_ {A = ℕ} 0 1 = cc (simp (le-leb (6 * length rs) (length out) fits) at e) in
+        omega arith
+    go (mistake line slip) few e = let z : _≡_ {A = ℕ} 0 1 = cc in omega arith

@@ -169,7 +169,6 @@ few (b ∷ rest) done p all e h =
     let next : List Record → Meaning = λ more. read more (turn p b) rest in
     few rest (kept done (says p b)) (turn p b) all (goes-on done (p .line) (says p b) next all e) (kept-few done (p .line) (says p b) next all e h)
 
--- a text means no more than 4,096 records (01, Numbers and limits)
 pub reading-few : (text : List ℕ) (all : List Record) → reading text ≡ records all → length all ≤ 4096
 unfolding reading
 reading-few text all e = few (lined text) [] (fresh 1) all e (omega arith)
@@ -193,3 +192,11 @@ as-read text h = simp (le-leb (length text) 262144 h)
 pub too-long : (text : List ℕ) → 262144 < length text → meaning text ≡ mistake (last-line (take 262144 text)) TooLong
 unfolding meaning
 too-long text h = simp (lt-leb (length text) 262144 h)
+
+-- a text means no more than 4,096 records (01, Numbers and limits)
+pub meaning-few : (text : List ℕ) (all : List Record) → meaning text ≡ records all → length all ≤ 4096
+meaning-few text all e = go (decLe (length text) 262144)
+  where
+    go : Dec (length text ≤ 262144) → length all ≤ 4096
+    go (yes h) = reading-few text all (sym (as-read text h) ∙ e)
+    go (no f) = absurd (let z : _≡_ {A = ℕ} 0 1 = cc (too-long text (lt-of-not-le f)) in omega arith)

@@ -9,6 +9,12 @@ ghost use Prim.Native.Nat.{_+_, _<_, _^_};
 ghost use Rattle.keying.specs.Inner.Machine.{blank-reader, reader-says, reader-after};
 ghost use Rattle.keying.specs.Text.{blank};
 
+const NEWLINE: u8 = b'\n';
+
+const COMMA: u8 = b',';
+
+const HASH: u8 = b'#';
+
 pub struct Reader {
     pub line: usize,
     // within a remark
@@ -36,13 +42,13 @@ pub fn says(reader: Reader, byte: u8) -> Said
     let remark = reader.remark;
     let entry = reader.entry;
     let word = reader.word;
-    if byte == b'\n' {
+    if byte == NEWLINE {
         return entry::judged(entry::with(entry, word));
     }
     if remark {
         return Said::Nothing;
     }
-    if byte == b',' {
+    if byte == COMMA {
         return entry::judged(entry::with(entry, word));
     }
     Said::Nothing
@@ -57,16 +63,16 @@ pub fn after(reader: Reader, byte: u8) -> Reader
     let remark = reader.remark;
     let entry = reader.entry;
     let word = reader.word;
-    if byte == b'\n' {
+    if byte == NEWLINE {
         return fresh(line + 1);
     }
     if remark {
         return reader;
     }
-    if byte == b',' {
+    if byte == COMMA {
         return fresh(line);
     }
-    if byte == b'#' {
+    if byte == HASH {
         return Reader {
             line: line,
             remark: true,

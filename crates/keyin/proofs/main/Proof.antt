@@ -1,73 +1,64 @@
+-- `keyin::main` is safe and ends: the file is no longer than the bytes lent for it.
+-- Assumes nothing.
 use borrow.Author.Needs.{needs}
+use mathlib.Core.Path.{sym}
+use Prim.Native.Nat.{_≤_}
+use lib.ListN.{length}
+use lib.Seq.{length-take-le}
+use Rattle.keying.proofs.Outcome.{filed}
 use Rattle.keyin.proofs.main.Statement.{statement}
 use Rattle.keyin.proofs.main.Tie as tie
-use Rattle.keyin.proofs.main.Reads as reads
-use Rattle.keyin.proofs.main.Lts as lts
-use Rattle.io.proofs.read_full.Reads as read-full-reads
-use Rattle.io.proofs.write_all.Reads as write-all-reads
-use Rattle.keyin.proofs.tell.Reads as tell-reads
-use Rattle.keying.proofs.key.Reads as key-reads
 
--- src/main.rt:11:30
 slice-aggregate-read-full : tie.Need-slice-aggregate-read-full
 slice-aggregate-read-full c = search needs
 
--- src/main.rt:11:9
 read-full-requires : tie.Need-read-full-requires
 read-full-requires c κs = search needs
 
--- src/main.rt:12:23
 array-share-prefix-text : tie.Need-array-share-prefix-text
 array-share-prefix-text c = search needs
 
--- src/main.rt:12:23
 slice-aggregate-key : tie.Need-slice-aggregate-key
 slice-aggregate-key c = search needs
 
--- src/main.rt:12:35
 slice-aggregate-key-2 : tie.Need-slice-aggregate-key-2
 slice-aggregate-key-2 c = search needs
 
--- src/main.rt:12:11
 key-requires : tie.Need-key-requires
 key-requires c κs = search needs
 
--- src/main.rt:13:24
 enum-known-size : tie.Need-enum-known-size
 enum-known-size c = search needs
 
--- src/main.rt:14:42
+within : (c : tie.After-size) → c .size .given .0 .0 ≤ length (c .before .before .before .key .last .1 .0)
+within c =
+    let k = c .before .before .before .key in
+    rw (k .kept .1 .0) (filed _ _ (c .size .given .0 .0) _ (rw (c .size .given .1) at (k .ensures)) .within)
+
 array-share-prefix-file : tie.Need-array-share-prefix-file
-array-share-prefix-file c = ?
+array-share-prefix-file c = within (c .before)
 
--- src/main.rt:14:42
 slice-aggregate-write-all : tie.Need-slice-aggregate-write-all
-slice-aggregate-write-all c = ?
+slice-aggregate-write-all c = sym (length-take-le _ _ (within (c .before .before)))
 
--- src/main.rt:14:13
 write-all-requires : tie.Need-write-all-requires
 write-all-requires c κs = search needs
 
--- src/main.rt:16:24
 enum-known-line : tie.Need-enum-known-line
 enum-known-line c = search needs
 
--- src/main.rt:16:39
 tell-requires : tie.Need-tell-requires
 tell-requires c κs = search needs
 
 enum-told : tie.Need-enum-told
 enum-told c = search needs
 
--- src/main.rt:8:1
 returns : tie.Need-returns
 returns c = search needs
 
--- src/main.rt:8:1
 returns-2 : tie.Need-returns-2
 returns-2 c = search needs
 
--- src/main.rt:8:1
 returns-3 : tie.Need-returns-3
 returns-3 c = search needs
 

@@ -30,7 +30,7 @@ returns c =
     let e = too-long (a .text .now) (c .before .before .if1 .taken) in
     record {
       answer = ap (λ (n : ℕ). Mistake n TooLong) (c .last .ensures) ∙ sym (ap (λ (m : Meaning). answered m (a .out .now)) e);
-      bytes = sym (ap (λ (m : Meaning). left m (a .out .now)) e)
+      bytes = sym (ap (λ (m : Meaning). left m (a .out .now)) e);
     }
 
 check-requires : tie.Need-check-requires
@@ -68,7 +68,7 @@ returns-3 c = let k = c .before .before .before .before .before .before in
     let t = told k in
     record {
       answer = rw (r, t .1, t .2) (simp (le-leb _ _ (c .before .before .before .before .if2 .taken)));
-      bytes = rw r (c .before .before .write .ensures)
+      bytes = rw r (c .before .before .write .ensures);
     }
 
 returns-4 : tie.Need-returns-4
