@@ -12,14 +12,14 @@ use lib.ListN.{getD}
 use lib.Pow.{pow-pos}
 use Rattle.schedule.specs.Row.{all}
 use Rattle.schedule.specs.Make.{choose, ready, taken}
-use Rattle.schedule.proofs.Tests.{test, and-pair, and-fst, and-snd, or-left, or-right, or-split, eq→eqb, lt-by}
+use Rattle.schedule.proofs.Tests.{test, and-pair, and-fst, and-snd, or-left, or-right, or-split, same-test, eq→eqb, lt-by}
 use Rattle.schedule.proofs.Choice.{all-each, each-all}
 use Rattle.schedule.proofs.Loop.{choose-ext}
 use Rattle.planner.specs.Sets.{has}
 use Rattle.planner.specs.Told.{jobs-in, row-in}
 use Rattle.planner.specs.Inner.Choice.{ready-by}
 use Rattle.planner.proofs.Bits.{and-has, high-has}
-use Rattle.planner.proofs.Same.{same-test, digits-same}
+use Rattle.planner.proofs.Same.{digits-same}
 
 -- nothing is in the empty set
 pub empty : (j : ℕ) → T (has 0 j) → ⊥

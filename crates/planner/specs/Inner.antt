@@ -5,3 +5,4 @@ pub mod Book
 pub mod Choice
 pub mod Layout
 pub mod Planned
+pub mod List
