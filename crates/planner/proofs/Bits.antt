@@ -1,18 +1,19 @@
 -- The laws of sets that are numbers: what digit each operation gives, the count of ones, and that digits settle the number.
 -- Assumes nothing.
 use Prim.Native.Nat.{ℕ, zero, suc, _+_, _-_, _*_, _/_, _%_, _^_, _≤_, _<_}
-use native.Mathlib.Nat.{mod-lt, mod-eq-of-lt, div-eq-of-lt, div-one, zero-div, one-mul, mul-mod-left, pow-suc, lt-of-lt-of-le, mod-one}
+use native.Mathlib.Nat.{sub-zero, mod-lt, mod-eq-of-lt, div-eq-of-lt, div-one, zero-div, one-mul, mul-mod-left, pow-suc, lt-of-lt-of-le, mod-one}
 use native.Mathlib.Decide.{decLt}
 use native.Mathlib.Numerals.{one-add}
 use native.Mathlib.Omega.{arith}
 use mathlib.Core.Bool.{Bool, true, false, not, _&&_, _||_}
 use mathlib.Core.Path.{_≡_, refl, sym, ap, ap₂, _∙_, subst}
 use borrow.Author.Tests.{lt-ltb, le-ltb, eq-eqb, ne-eqb, eqb-true}
-use lib.Dec.{eqb, ltb, lit<, eqb·suc-zero, eqb·zero-suc, eqb·suc-suc}
+use lib.Dec.{T, eqb, ltb, lit<, eqb·suc-zero, eqb·zero-suc, eqb·suc-suc}
 use lib.Bits.{bitAnd, bitOr, bitXor, and-shr, or-shr, xor-shr, and-mod, or-mod, xor-mod}
-use lib.Count.{ones, ones-cat}
+use lib.Count.{ones, ones-cat, trailingZeros, under}
 use lib.Pow.{pow-pos, pow-lt, pow-mono, mod-pow-add, shr-shr, shl-exact}
 use Rattle.schedule.specs.Count.{one, count}
+use Rattle.schedule.proofs.Tests.{lt-by}
 use Rattle.planner.specs.Sets.{has}
 
 -- what holds at 0 and at 1 holds of a digit
@@ -202,3 +203,40 @@ pub built-same : (p : ℕ → Bool) (i s : ℕ) → p i ≡ false → Built p i 
 built-same p i s pi h j =
     h j ∙ skip (ltb j i) (p j) (eqb j i) (λ e. ap p (eqb-true j i e) ∙ pi)
     ∙ sym (ap (λ (b : Bool). b && p j) (ltb-more j i))
+
+-- no job is in the empty set, and a set without jobs is empty
+pub empty-has : (j : ℕ) → has 0 j ≡ false
+empty-has j = high-has 0 j (pow-pos j)
+
+pub empty-is : (x : ℕ) → x < 2 ^ 64 → ((j : ℕ) → has x j ≡ false) → x ≡ 0
+empty-is x h f = has-same 64 x 0 h (pow-pos 64) (λ j l. f j ∙ sym (empty-has j))
+
+-- a job in a set is below 64, and its set is not empty
+pub has-below : (x j : ℕ) → x < 2 ^ 64 → T (has x j) → j < 64
+has-below x j h t = lt-by j 64 (λ le. subst T (high-has x j (lt-of-lt-of-le h (pow-mono {i = 64} {j = j} le))) t)
+
+pub has-some : (x j : ℕ) → T (has x j) → x ≡ 0 → ⊥
+has-some x j t e = subst T (ap (λ (n : ℕ). has n j) e ∙ empty-has j) t
+
+-- the jobs below n
+pub low-has : (n j : ℕ) → has (2 ^ n - 1) j ≡ ltb j n
+low-has n j = go (decLt j n)
+  where
+    go : Dec (j < n) → has (2 ^ n - 1) j ≡ ltb j n
+    go (yes h) = ap (λ (x : ℕ). has x j) (sym (sub-zero (2 ^ n - 1))) ∙ not-has n 0 j (pow-pos n) h ∙ ap not (empty-has j) ∙ sym (lt-ltb j n h)
+    go (no h) =
+        high-has (2 ^ n - 1) j (omega (arith, pow-mono {i = n} {j = j} (omega arith), pow-pos n)) ∙ sym (le-ltb j n (omega arith))
+
+-- the lowest one of a number is one of its digits
+pub trailing-has : (k x : ℕ) → x < 2 ^ k → (x ≡ 0 → ⊥) → (trailingZeros k x < k) × T (has x (trailingZeros k x))
+unfolding trailingZeros
+trailing-has zero x h f = absurd (f (omega arith))
+trailing-has (suc k) x h f = go (x % 2) refl (λ g. trailing-has k (x / 2) (let e : x / 2 < 2 ^ k = omega (arith, rw pow-suc at h) in e) g)
+  where
+    lowest : x % 2 ≡ 1 → T (has x 0)
+    lowest e = unfold has in simp (div-one, e) tt
+
+    go : (r : ℕ) → x % 2 ≡ r → ((x / 2 ≡ 0 → ⊥) → (trailingZeros k (x / 2) < k) × T (has (x / 2) (trailingZeros k (x / 2)))) →
+        (under r (trailingZeros k (x / 2)) < suc k) × T (has x (under r (trailingZeros k (x / 2))))
+    go zero e ih = let y = ih (λ z. f (omega arith)) in (omega (arith, y .0), rw half-has (y .1))
+    go (suc r) e ih = (omega arith, lowest (omega arith))
