@@ -17,6 +17,13 @@ ghost use Rattle.planner.specs.Inner.Tighten.{Tightenable, Tightens};
 ghost use Rattle.planner.specs.Inner.Tables.{Steps, Known};
 ghost use Rattle.planner.specs.Inner.Lower.{DueBy, DueBelow, AtD, Swept, Moves, Settles};
 
+// A time of a row.
+pub fn wide(time: u16) -> usize
+    ensures { λ r. ⌜ (r ≡ time) × (r < 65536) ⌝ }
+{
+    time as usize
+}
+
 // Which jobs moved; Shut where some job has no time left.
 enum Moved {
     Jobs(u64),
@@ -103,7 +110,7 @@ fn due_below(limit: usize, size: usize, row: &[u16; 64]) -> Due
     let mut jobs: u64 = 0;
     let mut i: usize = 0;
     while i < size {
-        let time = row[i] as usize;
+        let time = wide(row[i]);
         if time < limit {
             jobs = sets::with(jobs, JobIndex(i));
             if d < time {
@@ -125,7 +132,7 @@ fn lower_at<'a>(d: usize, due: u64, followers: &'a [u64; 64], early: &'a [usize;
     while rest != 0 {
         let job = sets::first(rest);
         let i = job.0;
-        let held = row[i] as usize;
+        let held = wide(row[i]);
         let time = rule::lowered(job, held, d, due, followers[i], early, late, next);
         row[i] = time as u16;
         if time == 0 {

@@ -28,7 +28,7 @@ pub record At (J : Jobs) (row : ℕ → ℕ) (i held d due followers : ℕ) (ear
   pub table : Table (J .size) early late next
   pub job : i < J .size
   pub holds : row i ≡ held
-  pub due : DueBy (J .size) row d due
+  pub soon : DueBy (J .size) row d due
   pub follow : (j : ℕ) → has followers j ≡ (ltb j (J .size) && J .before i j)
 
 -- n is N at some s at which the rule speaks, or 0; and N is no more at any s tried
@@ -85,7 +85,6 @@ pub record DueBelow (limit size : ℕ) (row : List ℕ) (r : Due) : Type 0 where
   pub jobs : (j : ℕ) → has (r .jobs) j ≡ (ltb j size && ltb (getD row j 0) limit)
   pub top : (j : ℕ) → T (has (r .jobs) j) → getD row j 0 ≤ r .d
   pub some : (j : ℕ) → T (has (r .jobs) j) → r .d < limit
-  pub held : (r .d ≡ 0) ⊎ ((k : ℕ) × (k < size) × (getD row k 0 ≡ r .d))
 
 -- the greatest consistent row beneath, or none
 pub record Settles (J : Jobs) (early : ℕ → ℕ) (row next : List ℕ) (fits : Bool) : Type 0 where

@@ -1,6 +1,7 @@
 // Earliest times, each job after those that precede it.
 use schedule::JobIndex;
 use crate::sets;
+use crate::tighten::wide;
 ghost use mathlib.Core.Bool.{true, false};
 ghost use mathlib.Core.Path.{_≡_};
 ghost use Prim.Native.Nat.{ℕ, _<_, _≤_};
@@ -19,7 +20,7 @@ pub fn earliest<'a>(size: usize, start: &'a [u16; 64], before: &'a [u64; 64], ea
     while k < size {
         let job = free(before, todo);
         let i = job.0;
-        early[i] = after(start[i] as usize, before[i], early);
+        early[i] = after(wide(start[i]), before[i], early);
         order[k] = i;
         todo = sets::without(todo, job);
         k += 1;

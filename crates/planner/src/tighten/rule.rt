@@ -13,7 +13,7 @@ ghost use Rattle.planner.specs.Inner.Lower.{At, Pressure, Ruled};
 // N at the first s at which N is at least 2(d - s), 0 where there is none.
 fn pressure<'a>(job: JobIndex, held: usize, d: usize, due: u64, followers: u64, early: &'a [usize; 65], late: &'a [u64; 65], next: &'a [usize; 65]) -> usize
     requires { ⌜ Steps (now early) (now next) × (job .0 < 64) × (getD (now early) (job .0) 0 < held) × (held ≤ d) × (d < 65536) ⌝ }
-    ensures { λ r. ⌜ ((J : Jobs) (row : ℕ → ℕ) → At J row (job .0) held d due followers (now (early .entry)) (now (late .entry)) (now (next .entry)) → Pressure J (row-in (now (early .entry))) row (job .0) d r) ⌝ }
+    ensures { λ r. ⌜ (r ≤ 64) × ((J : Jobs) (row : ℕ → ℕ) → At J row (job .0) held d due followers (now (early .entry)) (now (late .entry)) (now (next .entry)) → Pressure J (row-in (now (early .entry))) row (job .0) d r) ⌝ }
 {
     let least = 2 * (d - held);
     let mut most: usize = 64;

@@ -1,50 +1,64 @@
+-- `planner::tighten::due_below` meets its contract.
+-- Assumes nothing.
+use mathlib.Core.Logic.{_⊎_, inl, inr, ⊎-elim}
+use mathlib.Core.Path.{_≡_, refl, sym, ap, subst, _∙_}
+use Prim.Native.Nat.{ℕ, _+_, _-_, _≤_, _<_}
+use native.Mathlib.Omega.{arith}
+use borrow.Author.Needs.{needs}
+use lib.Dec.{T, ltb}
+use lib.ListN.{getD}
+use Rattle.schedule.specs.Count.{count}
+use Rattle.planner.specs.Sets.{has}
+use Rattle.planner.specs.Inner.Lower.{DueBelow}
+use Rattle.planner.proofs.TightenDue.{Gathered, gathered-none, gathered-more, gathered-same, gathered-due}
 use Rattle.planner.proofs.tighten.due_below.Statement.{statement}
 use Rattle.planner.proofs.tighten.due_below.Tie as tie
 use Rattle.planner.proofs.tighten.due_below.Reads as reads
 use Rattle.planner.proofs.tighten.due_below.Lts as lts
 use Rattle.planner.proofs.sets.with.Reads as with-reads
+use Rattle.planner.proofs.tighten.wide.Reads as wide-reads
 
 abbrev Inv-loop : tie.InvT-loop
-Inv-loop limit size row d₀ jobs₀ i₀ d jobs i = ?
+Inv-loop limit size row d₀ jobs₀ i₀ d jobs i = Gathered limit size row i d jobs
 
 abbrev μ-loop : tie.MeasureT-loop
-μ-loop limit size row d₀ jobs₀ i₀ d jobs i = ?
+μ-loop limit size row d₀ jobs₀ i₀ d jobs i = size - i
 
--- src/tighten.rt:105:5
 loop-holds : tie.Need-loop-holds Inv-loop μ-loop
-loop-holds c = ?
+loop-holds c = gathered-none _ _ _
 
--- src/tighten.rt:106:20
-mul-time : tie.Need-mul-time Inv-loop μ-loop
-mul-time c = ?
+mul-wide : tie.Need-mul-wide Inv-loop μ-loop
+mul-wide c = search needs
 
--- src/tighten.rt:106:20
-element-copy-out-time : tie.Need-element-copy-out-time Inv-loop μ-loop
-element-copy-out-time c = ?
+element-copy-out-wide : tie.Need-element-copy-out-wide Inv-loop μ-loop
+element-copy-out-wide c = search needs
 
--- src/tighten.rt:106:20
-cast-time : tie.Need-cast-time Inv-loop μ-loop
-cast-time c = ?
+wide-requires : tie.Need-wide-requires Inv-loop μ-loop
+wide-requires c κs = ?
 
--- src/tighten.rt:108:13
 with-requires : tie.Need-with-requires Inv-loop μ-loop
-with-requires c κs = ?
+with-requires c κs = search needs
 
--- src/tighten.rt:113:9
 add-i : tie.Need-add-i Inv-loop μ-loop
-add-i c = ?
+add-i c = search needs
 
--- src/tighten.rt:105:5
 loop-less : tie.Need-loop-less Inv-loop μ-loop
-loop-less c = ?
+loop-less c = search needs
 
--- src/tighten.rt:105:5
 loop-again : tie.Need-loop-again Inv-loop μ-loop
-loop-again c = ?
+loop-again c = 
+    let p = c .before .before .before in
+    let a = p .before .args in
+    let g = p .loop .inv in
+    ⊎-elim
+    (λ w. rw (w .3, w .4) (gathered-more (a .limit) (a .size) (a .row .now) (p .loop .i) (p .loop .d) (p .loop .jobs) g (search needs) _ (w .1 .result) (w .0 .taken) (w .1 .ensures) (omega arith) (omega arith) (inr (w .0 .taken))))
+    (⊎-elim
+    (λ w. rw (w .3, w .4) (gathered-more (a .limit) (a .size) (a .row .now) (p .loop .i) (p .loop .d) (p .loop .jobs) g (search needs) _ (w .1 .result) (w .0 .taken) (w .1 .ensures) (omega arith) (w .2 .left) (g .low)))
+    (λ w. rw (w .1, w .2) (gathered-same (a .limit) (a .size) (a .row .now) (p .loop .i) (p .loop .d) (p .loop .jobs) g (search needs) (w .0 .left))))
+    (c .if1 .came)
 
--- src/tighten.rt:98:1
 returns : tie.Need-returns Inv-loop μ-loop
-returns c = ?
+returns c = gathered-due _ _ _ _ _ _ (c .before .loop .inv) (search needs)
 
 pub due-below-spec : {M : Type 1} → statement M
 due-below-spec =
@@ -53,9 +67,9 @@ due-below-spec =
     Inv-loop
     μ-loop
     loop-holds
-    mul-time
-    element-copy-out-time
-    cast-time
+    mul-wide
+    element-copy-out-wide
+    wide-requires
     with-requires
     add-i
     loop-less

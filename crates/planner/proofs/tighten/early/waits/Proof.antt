@@ -1,21 +1,39 @@
+-- `planner::tighten::early::waits` meets its contract.
+-- Assumes nothing.
+use mathlib.Core.Logic.{_⊎_, inl, inr, ⊎-elim}
+use mathlib.Core.Path.{_≡_, refl, sym, ap, subst, _∙_}
+use Prim.Native.Nat.{ℕ, _+_, _-_, _≤_, _<_}
+use native.Mathlib.Omega.{arith}
 use borrow.Author.Needs.{needs}
+use lib.Dec.{T, ltb}
+use lib.ListN.{getD}
+use Rattle.schedule.specs.Count.{count}
+use Rattle.planner.specs.Sets.{has}
+use borrow.Author.Tests.{eqb-true, eqb-false, not-true, not-false}
+use Rattle.planner.specs.Inner.Early.{Free}
+use Rattle.planner.proofs.Bits.{apart-is, apart-has}
 use Rattle.planner.proofs.tighten.early.waits.Statement.{statement}
 use Rattle.planner.proofs.tighten.early.waits.Tie as tie
 use Rattle.planner.proofs.tighten.early.waits.Reads as reads
 use Rattle.planner.proofs.tighten.early.waits.Lts as lts
 use Rattle.planner.proofs.sets.has.Reads as has-reads
 
--- src/tighten/early.rt:45:8
 has-requires : tie.Need-has-requires
 has-requires c κs = search needs
 
--- src/tighten/early.rt:46:9
 returns : tie.Need-returns
-returns c = ?
+returns c = 
+    let a = c .before .before .args in
+    let r = c .before .before .fits in (
+      (λ e f. eqb-false _ 0 (not-true _ e) (apart-is (a .before) (a .todo) (r .before .fits) (r .todo .fits) (f .ready))),
+      (λ e. record {
+        member = subst T (sym (c .if1 .taken) ∙ c .before .has .ensures) tt;
+        ready = apart-has (a .before) (a .todo) (eqb-true _ 0 (not-false _ e));
+      }),
+    )
 
--- src/tighten/early.rt:41:1
 returns-2 : tie.Need-returns-2
-returns-2 c = ?
+returns-2 c = ((λ e f. subst T (sym (c .before .has .ensures) ∙ c .if1 .left) (f .member)), (λ e. absurd (subst T e tt)))
 
 pub waits-spec : {M : Type 1} → statement M
 waits-spec = tie.close (tie.spec has-requires returns returns-2)

@@ -1,3 +1,20 @@
+-- `planner::tighten::follow::capped` meets its contract.
+-- Assumes nothing.
+use mathlib.Core.Logic.{_⊎_, inl, inr, ⊎-elim}
+use mathlib.Core.Path.{_≡_, refl, sym, ap, subst, _∙_}
+use Prim.Native.Nat.{ℕ, _+_, _-_, _≤_, _<_}
+use native.Mathlib.Omega.{arith}
+use borrow.Author.Needs.{needs}
+use lib.Dec.{T, ltb}
+use lib.ListN.{getD}
+use Rattle.schedule.specs.Count.{count}
+use Rattle.planner.specs.Sets.{has}
+use Rattle.schedule.specs.Jobs.{Jobs}
+use Rattle.schedule.specs.Times.{Raised}
+use Rattle.planner.specs.Told.{row-in}
+use Rattle.planner.specs.Inner.Lower.{Eased}
+use Rattle.planner.proofs.Bits.{walk-less, walk-sub}
+use Rattle.planner.proofs.TightenLower.{eased-same, eased-follow}
 use Rattle.planner.proofs.tighten.follow.capped.Statement.{statement}
 use Rattle.planner.proofs.tighten.follow.capped.Tie as tie
 use Rattle.planner.proofs.tighten.follow.capped.Reads as reads
@@ -6,50 +23,59 @@ use Rattle.planner.proofs.sets.first.Reads as first-reads
 use Rattle.planner.proofs.sets.without.Reads as without-reads
 
 abbrev Inv-loop : tie.InvT-loop
-Inv-loop held set row time₀ rest₀ time rest = ?
+Inv-loop held set row time₀ rest₀ time rest = ((a : ℕ) → T (has rest a) → T (has set a)) × ((J : Jobs) (early : ℕ → ℕ) (i : ℕ) → i < J .size → row-in row i ≡ held → ((j : ℕ) → T (has set j) → (j < J .size) × T (J .before i j)) → Raised J early → Eased J early (row-in row) i time)
 
 abbrev μ-loop : tie.MeasureT-loop
-μ-loop held set row time₀ rest₀ time rest = ?
+μ-loop held set row time₀ rest₀ time rest = count 64 (has rest)
 
--- src/tighten/follow.rt:44:5
 loop-holds : tie.Need-loop-holds Inv-loop μ-loop
-loop-holds c = ?
+loop-holds c = ((λ a t. t), (λ J early i l e f r. rw (sym e) (eased-same J early (row-in (c .args .row .now)) i l)))
 
--- src/tighten/follow.rt:45:13
 first-requires : tie.Need-first-requires Inv-loop μ-loop
-first-requires c κs = ?
+first-requires c κs = search needs
 
--- src/tighten/follow.rt:47:21
 mul-other : tie.Need-mul-other Inv-loop μ-loop
-mul-other c = ?
+mul-other c = search needs
 
--- src/tighten/follow.rt:47:21
 element-copy-out-other : tie.Need-element-copy-out-other Inv-loop μ-loop
-element-copy-out-other c = ?
+element-copy-out-other c = search needs
 
--- src/tighten/follow.rt:50:17
 returns : tie.Need-returns Inv-loop μ-loop
-returns c = ?
+returns c J early i l e f r =
+    let p = c .before .before .before .before .before in
+    let k = c .before .before .before .first in
+    let j = f (k .result .0) (p .loop .inv .0 (k .result .0) (k .ensures .1)) in
+    let row = row-in (p .before .args .row .now) in
+    let z : row (k .result .0) - 1 ≡ 0 = omega arith in
+    subst (λ (n : ℕ). Eased J early row i n) z (eased-follow J early row i l r (k .result .0) (j .0) (j .1) (p .loop .time) (p .loop .inv .1 J early i l e f r) (c .before .if1 .taken))
 
--- src/tighten/follow.rt:52:20
 sub-time : tie.Need-sub-time Inv-loop μ-loop
-sub-time c = ?
+sub-time c = search needs
 
--- src/tighten/follow.rt:54:9
 without-requires : tie.Need-without-requires Inv-loop μ-loop
-without-requires c κs = ?
+without-requires c κs = search needs
 
--- src/tighten/follow.rt:44:5
 loop-less : tie.Need-loop-less Inv-loop μ-loop
-loop-less c = ?
+loop-less c = 
+    let k = c .before .before .before .first in
+    walk-less (c .before .before .before .before .before .loop .rest) (c .without .result) (k .result .0) (c .without .ensures) (k .ensures .0) (k .ensures .1)
 
--- src/tighten/follow.rt:44:5
 loop-again : tie.Need-loop-again Inv-loop μ-loop
-loop-again c = ?
+loop-again c = 
+    let p = c .before .before .before .before .before in
+    let k = c .before .before .before .first in
+    let row = row-in (p .before .args .row .now) in (
+      (λ a t. p .loop .inv .0 a (walk-sub (p .loop .rest) (c .without .result) (k .result .0) (c .without .ensures) a t)),
+      (λ J early i l e f r.
+          let j = f (k .result .0) (p .loop .inv .0 (k .result .0) (k .ensures .1)) in
+          ⊎-elim
+          (λ w. rw (w .2) (eased-follow J early row i l r (k .result .0) (j .0) (j .1) (p .loop .time) (p .loop .inv .1 J early i l e f r) (w .0 .taken)))
+          (λ w. rw (w .1) (p .loop .inv .1 J early i l e f r))
+          (c .before .if1 .came)),
+    )
 
--- src/tighten/follow.rt:39:1
 returns-2 : tie.Need-returns-2 Inv-loop μ-loop
-returns-2 c = ?
+returns-2 c = c .before .loop .inv .1
 
 pub capped-spec : {M : Type 1} → statement M
 capped-spec =
