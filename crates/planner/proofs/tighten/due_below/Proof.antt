@@ -47,14 +47,15 @@ loop-less c = search needs
 
 loop-again : tie.Need-loop-again Inv-loop μ-loop
 loop-again c = 
-    let p = c .before .before .before in
+    let p = c .before .before .before .before in
+    let t = c .before .wide .ensures .0 in
     let a = p .before .args in
     let g = p .loop .inv in
     ⊎-elim
-    (λ w. rw (w .3, w .4) (gathered-more (a .limit) (a .size) (a .row .now) (p .loop .i) (p .loop .d) (p .loop .jobs) g (search needs) _ (w .1 .result) (w .0 .taken) (w .1 .ensures) (omega arith) (omega arith) (inr (w .0 .taken))))
+    (λ w. rw (w .3, w .4) (gathered-more (a .limit) (a .size) (a .row .now) (p .loop .i) (p .loop .d) (p .loop .jobs) g (search needs) _ (w .1 .result) (omega (arith, t, w .0 .taken)) (w .1 .ensures) (omega (arith, w .2 .taken)) (omega (arith, t)) (inr (w .0 .taken))))
     (⊎-elim
-    (λ w. rw (w .3, w .4) (gathered-more (a .limit) (a .size) (a .row .now) (p .loop .i) (p .loop .d) (p .loop .jobs) g (search needs) _ (w .1 .result) (w .0 .taken) (w .1 .ensures) (omega arith) (w .2 .left) (g .low)))
-    (λ w. rw (w .1, w .2) (gathered-same (a .limit) (a .size) (a .row .now) (p .loop .i) (p .loop .d) (p .loop .jobs) g (search needs) (w .0 .left))))
+    (λ w. rw (w .3, w .4) (gathered-more (a .limit) (a .size) (a .row .now) (p .loop .i) (p .loop .d) (p .loop .jobs) g (search needs) _ (w .1 .result) (omega (arith, t, w .0 .taken)) (w .1 .ensures) (omega arith) (omega (arith, t, w .2 .left)) (g .low)))
+    (λ w. rw (w .1, w .2) (gathered-same (a .limit) (a .size) (a .row .now) (p .loop .i) (p .loop .d) (p .loop .jobs) g (search needs) (omega (arith, t, w .0 .left)))))
     (c .if1 .came)
 
 returns : tie.Need-returns Inv-loop μ-loop

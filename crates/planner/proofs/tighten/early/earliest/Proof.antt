@@ -1,3 +1,15 @@
+-- `planner::tighten::early::earliest` meets its contract.
+-- Assumes nothing.
+use mathlib.Core.Logic.{_⊎_, inl, inr, ⊎-elim}
+use mathlib.Core.Path.{_≡_, refl, sym, ap, subst, _∙_}
+use Prim.Native.Nat.{ℕ, _+_, _-_, _≤_, _<_}
+use native.Mathlib.Omega.{arith}
+use borrow.Author.Needs.{needs}
+use lib.Dec.{T, ltb}
+use lib.ListN.{getD}
+use Rattle.schedule.specs.Count.{count}
+use Rattle.planner.specs.Sets.{has}
+use Rattle.planner.proofs.TightenEarly.{Making, making-start, making-free, making-low, making-next, making-end}
 use Rattle.planner.proofs.tighten.early.earliest.Statement.{statement}
 use Rattle.planner.proofs.tighten.early.earliest.Tie as tie
 use Rattle.planner.proofs.tighten.early.earliest.Reads as reads
@@ -6,84 +18,82 @@ use Rattle.planner.proofs.sets.below.Reads as below-reads
 use Rattle.planner.proofs.sets.without.Reads as without-reads
 use Rattle.planner.proofs.tighten.early.after.Reads as after-reads
 use Rattle.planner.proofs.tighten.early.free.Reads as free-reads
+use Rattle.planner.proofs.tighten.wide.Reads as wide-reads
 
 abbrev Inv-loop : tie.InvT-loop
-Inv-loop size start before early₀ order₀ todo₀ k₀ early order todo k = ?
+Inv-loop size start before early₀ order₀ todo₀ k₀ early order todo k = Making size start before early order todo k
 
 abbrev μ-loop : tie.MeasureT-loop
-μ-loop size start before early₀ order₀ todo₀ k₀ early order todo k = ?
+μ-loop size start before early₀ order₀ todo₀ k₀ early order todo k = size - k
 
--- src/tighten/early.rt:17:9
 below-requires : tie.Need-below-requires Inv-loop μ-loop
-below-requires c κs = ?
+below-requires c κs = c .pre .0 .few
 
--- src/tighten/early.rt:19:5
 loop-holds : tie.Need-loop-holds Inv-loop μ-loop
-loop-holds c = ?
+loop-holds c = making-start _ _ _ (c .before .pre .0) _ _ _ (search needs) (search needs) (c .before .pre .1) (c .below .ensures)
 
--- src/tighten/early.rt:20:13
 free-requires : tie.Need-free-requires Inv-loop μ-loop
-free-requires c κs = ?
+free-requires c κs = 
+    let p = c .before in
+    let a = p .before .before .args in
+    making-free (a .size) (a .start .now) (a .before .now) (p .before .before .pre .0) (p .loop .early) (p .loop .order) (p .loop .todo) (p .loop .k) (p .loop .inv) (search needs)
 
--- src/tighten/early.rt:22:26
+mul-wide : tie.Need-mul-wide Inv-loop μ-loop
+mul-wide c = search needs
+
+element-copy-out-wide : tie.Need-element-copy-out-wide Inv-loop μ-loop
+element-copy-out-wide c = search needs
+
+wide-requires : tie.Need-wide-requires Inv-loop μ-loop
+wide-requires c κs = ?
+
 mul-after : tie.Need-mul-after Inv-loop μ-loop
-mul-after c = ?
+mul-after c = search needs
 
--- src/tighten/early.rt:22:26
 element-copy-out-after : tie.Need-element-copy-out-after Inv-loop μ-loop
-element-copy-out-after c = ?
+element-copy-out-after c = search needs
 
--- src/tighten/early.rt:22:26
-cast-after : tie.Need-cast-after Inv-loop μ-loop
-cast-after c = ?
-
--- src/tighten/early.rt:22:45
-mul-after-2 : tie.Need-mul-after-2 Inv-loop μ-loop
-mul-after-2 c = ?
-
--- src/tighten/early.rt:22:45
-element-copy-out-after-2 : tie.Need-element-copy-out-after-2 Inv-loop μ-loop
-element-copy-out-after-2 c = ?
-
--- src/tighten/early.rt:22:20
 after-requires : tie.Need-after-requires Inv-loop μ-loop
-after-requires c κs = ?
+after-requires c κs = 
+    let p = c .before .before .before .before .before .before in
+    let a = p .before .before .args in
+    let f = c .before .before .before .before .free in
+    making-low (a .size) (a .start .now) (a .before .now) (p .before .before .pre .0) (p .loop .early) (p .loop .order) (p .loop .todo) (p .loop .k) (p .loop .inv) (f .result .0) (f .ensures .1)
 
--- src/tighten/early.rt:22:9
 mul-early : tie.Need-mul-early Inv-loop μ-loop
-mul-early c = ?
+mul-early c = search needs
 
--- src/tighten/early.rt:22:9
 element-write-early : tie.Need-element-write-early Inv-loop μ-loop
-element-write-early c = ?
+element-write-early c = search needs
 
--- src/tighten/early.rt:23:9
 mul-order : tie.Need-mul-order Inv-loop μ-loop
-mul-order c = ?
+mul-order c = search needs
 
--- src/tighten/early.rt:23:9
 element-write-order : tie.Need-element-write-order Inv-loop μ-loop
-element-write-order c = ?
+element-write-order c = search needs
 
--- src/tighten/early.rt:24:9
 without-requires : tie.Need-without-requires Inv-loop μ-loop
-without-requires c κs = ?
+without-requires c κs = search needs
 
--- src/tighten/early.rt:25:9
 add-k : tie.Need-add-k Inv-loop μ-loop
-add-k c = ?
+add-k c = search needs
 
--- src/tighten/early.rt:19:5
 loop-less : tie.Need-loop-less Inv-loop μ-loop
-loop-less c = ?
+loop-less c = search needs
 
--- src/tighten/early.rt:19:5
 loop-again : tie.Need-loop-again Inv-loop μ-loop
-loop-again c = ?
+loop-again c = 
+    let p = c .before .before .before .before .before .before .before .before in
+    let a = p .before .before .args in
+    let f = c .before .before .before .before .before .before .free in
+    let w = c .before .before .before .before .wide .ensures .0 in
+    making-next (a .size) (a .start .now) (a .before .now) (p .before .before .pre .0) (p .loop .early) (p .loop .order) (p .loop .todo) (p .loop .k) (p .loop .inv) (f .result .0) (f .ensures .1) (search needs) (c .before .after .result) (c .without .result) (rw w at (c .before .after .ensures)) (c .without .ensures)
 
--- src/tighten/early.rt:13:1
 returns : tie.Need-returns Inv-loop μ-loop
-returns c = ?
+returns c = 
+    let p = c .before in
+    let a = p .before .before .args in
+    making-end (a .size) (a .start .now) (a .before .now) (p .before .before .pre .0) (p .loop .early) (p .loop .order) (p .loop .todo) (p .loop .k) (p .loop .inv) (search needs)
 
 pub earliest-spec : {M : Type 1} → statement M
 earliest-spec =
@@ -94,11 +104,11 @@ earliest-spec =
     below-requires
     loop-holds
     free-requires
+    mul-wide
+    element-copy-out-wide
+    wide-requires
     mul-after
     element-copy-out-after
-    cast-after
-    mul-after-2
-    element-copy-out-after-2
     after-requires
     mul-early
     element-write-early
