@@ -1,3 +1,10 @@
+-- `planner::chains::joined` meets its contract.
+-- Assumes nothing.
+use mathlib.Core.Logic.{inl, inr}
+use mathlib.Core.Path.{sym, _∙_}
+use native.Mathlib.Omega.{arith}
+use Rattle.planner.proofs.Step.{true-T}
+use Rattle.planner.proofs.Join.{or-joins, none-joins}
 use borrow.Author.Needs.{needs}
 use Rattle.planner.proofs.chains.joined.Statement.{statement}
 use Rattle.planner.proofs.chains.joined.Tie as tie
@@ -5,21 +12,17 @@ use Rattle.planner.proofs.chains.joined.Reads as reads
 use Rattle.planner.proofs.chains.joined.Lts as lts
 use Rattle.planner.proofs.sets.has.Reads as has-reads
 
--- src/chains.rt:27:9
 returns : tie.Need-returns
-returns c = ?
+returns c = or-joins _ _ _ _ (inl (omega arith))
 
--- src/chains.rt:29:8
 has-requires : tie.Need-has-requires
 has-requires c κs = search needs
 
--- src/chains.rt:30:9
 returns-2 : tie.Need-returns-2
-returns-2 c = ?
+returns-2 c = or-joins _ _ _ _ (inr (true-T _ (sym (c .before .has .ensures) ∙ c .if2 .taken)))
 
--- src/chains.rt:22:1
 returns-3 : tie.Need-returns-3
-returns-3 c = ?
+returns-3 c = none-joins _ _ _ _ (c .before .before .if1 .left) (sym (c .before .has .ensures) ∙ c .if2 .left)
 
 pub joined-spec : {M : Type 1} → statement M
 joined-spec = tie.close (tie.spec returns has-requires returns-2 returns-3)

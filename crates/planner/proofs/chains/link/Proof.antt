@@ -1,3 +1,15 @@
+-- `planner::chains::link` meets its contract. The invariant: the rows below y are joined, and the others are as they were.
+-- Assumes nothing.
+use mathlib.Core.Path.{_≡_, refl, _∙_}
+use Prim.Native.Nat.{ℕ, _-_, _≤_, _<_}
+use native.Mathlib.Omega.{arith}
+use borrow.Author.Count.{below-none, below-more}
+use borrow.Author.Needs.{needs}
+use denote.Ref.{now}
+use lib.ListN.{length, length-set, getD}
+use lib.Seq.{getD-set-same, getD-set-other}
+use Rattle.planner.specs.Inner.Chains.{Joins}
+use Rattle.planner.proofs.Join.{links-by}
 use Rattle.planner.proofs.chains.link.Statement.{statement}
 use Rattle.planner.proofs.chains.link.Tie as tie
 use Rattle.planner.proofs.chains.link.Reads as reads
@@ -6,62 +18,67 @@ use Rattle.planner.proofs.chains.joined.Reads as joined-reads
 use Rattle.planner.proofs.sets.with.Reads as with-reads
 
 abbrev Inv-loop : tie.InvT-loop
-Inv-loop rows₀ b first more y₀ rows y = ?
+Inv-loop rows₀ b first more y₀ rows y =
+    (y ≤ 64) × (length rows ≡ 64) × ((k : ℕ) → k < y → Joins (getD rows₀ k 0) k (b .0) more (getD rows k 0)) × ((k : ℕ) → y ≤ k → getD rows k 0 ≡ getD rows₀ k 0)
 
 abbrev μ-loop : tie.MeasureT-loop
-μ-loop rows₀ b first more y₀ rows y = ?
+μ-loop rows₀ b first more y₀ rows y = 64 - y
 
--- src/chains.rt:13:27
 mul-with : tie.Need-mul-with Inv-loop μ-loop
-mul-with c = ?
+mul-with c = search needs
 
--- src/chains.rt:13:27
 element-copy-out-with : tie.Need-element-copy-out-with Inv-loop μ-loop
-element-copy-out-with c = ?
+element-copy-out-with c = search needs
 
--- src/chains.rt:13:9
 with-requires : tie.Need-with-requires Inv-loop μ-loop
-with-requires c κs = ?
+with-requires c κs = search needs
 
--- src/chains.rt:15:5
 loop-holds : tie.Need-loop-holds Inv-loop μ-loop
-loop-holds c = ?
+loop-holds c = (search needs, c .before .before .pre .0, below-none _, (λ k h. refl))
 
--- src/chains.rt:16:26
 mul-joined : tie.Need-mul-joined Inv-loop μ-loop
-mul-joined c = ?
+mul-joined c = search needs
 
--- src/chains.rt:16:26
 element-copy-out-joined : tie.Need-element-copy-out-joined Inv-loop μ-loop
-element-copy-out-joined c = ?
+element-copy-out-joined c = search needs
 
--- src/chains.rt:16:19
 joined-requires : tie.Need-joined-requires Inv-loop μ-loop
-joined-requires c κs = ?
+joined-requires c κs = search needs
 
--- src/chains.rt:16:9
 mul-rows : tie.Need-mul-rows Inv-loop μ-loop
-mul-rows c = ?
+mul-rows c = search needs
 
--- src/chains.rt:16:9
 element-write-rows : tie.Need-element-write-rows Inv-loop μ-loop
-element-write-rows c = ?
+element-write-rows c = search needs
 
--- src/chains.rt:17:9
 add-y : tie.Need-add-y Inv-loop μ-loop
-add-y c = ?
+add-y c = search needs
 
--- src/chains.rt:15:5
 loop-less : tie.Need-loop-less Inv-loop μ-loop
-loop-less c = ?
+loop-less c = search needs
 
--- src/chains.rt:15:5
 loop-again : tie.Need-loop-again Inv-loop μ-loop
-loop-again c = ?
+loop-again c =
+    let p = c .before .before .before in
+    let n = p .loop .y in
+    let v = c .joined .result in (
+      search needs,
+      simp length-set (p .loop .inv .1),
+      below-more _ _
+          (λ k h. rw (getD-set-other (p .loop .rows) n k v 0 (λ q. omega arith)) (p .loop .inv .2 k h))
+          (rw (getD-set-same (p .loop .rows) n v 0 (omega (arith, p .loop .inv .1)), ← p .loop .inv .3 n (omega arith)) (c .joined .ensures)),
+      (λ k h. getD-set-other (p .loop .rows) n k v 0 (λ q. omega arith) ∙ p .loop .inv .3 k (omega arith)),
+    )
 
--- src/chains.rt:8:1
 returns : tie.Need-returns Inv-loop μ-loop
-returns c = ?
+returns c =
+    let p = c .before in
+    let at-with = p .before in
+    let start = at-with .before .before in (
+      p .loop .inv .1,
+      links-by (now (start .args .rows)) (p .loop .rows) (start .args .a .0) (start .args .b .0) (at-with .with .result)
+          (start .pre .0) (p .loop .inv .1) (start .pre .2) (at-with .with .ensures) (λ y h. p .loop .inv .2 y (omega arith)),
+    )
 
 pub link-spec : {M : Type 1} → statement M
 link-spec =
