@@ -6,7 +6,7 @@ use mathlib.Core.Logic.{_⊎_}
 use mathlib.Core.Path.{_≡_}
 use Prim.Native.Nat.{ℕ, _+_, _-_, _*_, _≤_, _<_}
 use lib.Dec.{T, leb, ltb}
-use lib.ListN.{length, getD}
+use lib.ListN.{getD}
 use Rattle.schedule.specs.Jobs.{Jobs}
 use Rattle.schedule.specs.Row.{put}
 use Rattle.schedule.specs.Plan.{HasPlan}
@@ -55,16 +55,19 @@ pub record Ruled (J : Jobs) (early row : ℕ → ℕ) (i d time : ℕ) : Type 0 
 
 -- a row that loses nothing
 pub record Sunk (J : Jobs) (early : ℕ → ℕ) (row next : List ℕ) : Type 0 where
-  pub length : length next ≡ 64
   pub rest : (i : ℕ) → J .size ≤ i → getD next i 0 ≡ getD row i 0
   pub bound : Bound 2 J early (row-in row) (row-in next)
+
+-- lower somewhere
+abbrev pub Fell : Jobs → List ℕ → List ℕ → Type 0
+Fell J row next = (k : ℕ) × (k < J .size) × (getD next k 0 < getD row k 0)
 
 -- which jobs moved: where none did the row is as it was, and clear
 abbrev pub Moves : Jobs → (ℕ → ℕ) → List ℕ → List ℕ → Type 0 → Moved → Type 0
 Moves J early row next clear (Those moved) =
     Sunk J early row next
     × (moved ≡ 0 → (next ≡ row) × clear)
-    × ((moved ≡ 0 → ⊥) → (k : ℕ) × (k < J .size) × (getD next k 0 < getD row k 0))
+    × ((moved ≡ 0 → ⊥) → Fell J row next)
 Moves J early row next clear Shut = HasPlan 2 J (row-in row) → ⊥
 
 -- lowered or shut
@@ -84,7 +87,7 @@ Swept J early row = (k : ℕ) → k < J .size → AtD J early row (row k)
 pub record DueBelow (limit size : ℕ) (row : List ℕ) (r : Due) : Type 0 where
   pub jobs : (j : ℕ) → has (r .jobs) j ≡ (ltb j size && ltb (getD row j 0) limit)
   pub top : (j : ℕ) → T (has (r .jobs) j) → getD row j 0 ≤ r .d
-  pub some : (j : ℕ) → T (has (r .jobs) j) → r .d < limit
+  pub some : (r .jobs ≡ 0 → ⊥) → r .d < limit
 
 -- the greatest consistent row beneath, or none
 pub record Settles (J : Jobs) (early : ℕ → ℕ) (row next : List ℕ) (fits : Bool) : Type 0 where

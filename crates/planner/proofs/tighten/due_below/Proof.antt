@@ -10,7 +10,7 @@ use lib.ListN.{getD}
 use Rattle.schedule.specs.Count.{count}
 use Rattle.planner.specs.Sets.{has}
 use Rattle.planner.specs.Inner.Lower.{DueBelow}
-use Rattle.planner.proofs.TightenDue.{Gathered, gathered-none, gathered-more, gathered-same, gathered-due}
+use Rattle.planner.proofs.TightenDue.{Gathered, gathered-none, gathered-more, gathered-same, gathered-low, gathered-due}
 use Rattle.planner.proofs.tighten.due_below.Statement.{statement}
 use Rattle.planner.proofs.tighten.due_below.Tie as tie
 use Rattle.planner.proofs.tighten.due_below.Reads as reads
@@ -34,7 +34,7 @@ element-copy-out-wide : tie.Need-element-copy-out-wide Inv-loop μ-loop
 element-copy-out-wide c = search needs
 
 wide-requires : tie.Need-wide-requires Inv-loop μ-loop
-wide-requires c κs = ?
+wide-requires c κs = search needs
 
 with-requires : tie.Need-with-requires Inv-loop μ-loop
 with-requires c κs = search needs
@@ -52,9 +52,9 @@ loop-again c =
     let a = p .before .args in
     let g = p .loop .inv in
     ⊎-elim
-    (λ w. rw (w .3, w .4) (gathered-more (a .limit) (a .size) (a .row .now) (p .loop .i) (p .loop .d) (p .loop .jobs) g (search needs) _ (w .1 .result) (omega (arith, t, w .0 .taken)) (w .1 .ensures) (omega (arith, w .2 .taken)) (omega (arith, t)) (inr (w .0 .taken))))
+    (λ w. rw (w .3, w .4) (gathered-more (a .limit) (a .size) (a .row .now) (p .loop .i) (p .loop .d) (p .loop .jobs) g (search needs) _ (w .1 .result) (omega (arith, t, w .0 .taken)) (w .1 .ensures) (omega (arith, w .2 .taken)) (omega (arith, t)) (w .0 .taken)))
     (⊎-elim
-    (λ w. rw (w .3, w .4) (gathered-more (a .limit) (a .size) (a .row .now) (p .loop .i) (p .loop .d) (p .loop .jobs) g (search needs) _ (w .1 .result) (omega (arith, t, w .0 .taken)) (w .1 .ensures) (omega arith) (omega (arith, t, w .2 .left)) (g .low)))
+    (λ w. rw (w .3, w .4) (gathered-more (a .limit) (a .size) (a .row .now) (p .loop .i) (p .loop .d) (p .loop .jobs) g (search needs) _ (w .1 .result) (omega (arith, t, w .0 .taken)) (w .1 .ensures) (omega arith) (omega (arith, t, w .2 .left)) (gathered-low (a .limit) (a .size) (a .row .now) (p .loop .i) (p .loop .d) (p .loop .jobs) g (omega (arith, t, w .0 .taken)))))
     (λ w. rw (w .1, w .2) (gathered-same (a .limit) (a .size) (a .row .now) (p .loop .i) (p .loop .d) (p .loop .jobs) g (search needs) (omega (arith, t, w .0 .left)))))
     (c .if1 .came)
 

@@ -30,7 +30,7 @@ below-requires : tie.Need-below-requires Inv-loop μ-loop
 below-requires c κs = c .pre .0 .few
 
 loop-holds : tie.Need-loop-holds Inv-loop μ-loop
-loop-holds c = making-start _ _ _ (c .before .pre .0) _ _ _ (search needs) (search needs) (c .before .pre .1) (c .below .ensures)
+loop-holds c = making-start _ _ _ (c .before .pre .0) _ _ _ (c .before .pre .1) (c .before .pre .2) (c .before .pre .3) (c .below .ensures)
 
 free-requires : tie.Need-free-requires Inv-loop μ-loop
 free-requires c κs = 
@@ -45,7 +45,7 @@ element-copy-out-wide : tie.Need-element-copy-out-wide Inv-loop μ-loop
 element-copy-out-wide c = search needs
 
 wide-requires : tie.Need-wide-requires Inv-loop μ-loop
-wide-requires c κs = ?
+wide-requires c κs = search needs
 
 mul-after : tie.Need-mul-after Inv-loop μ-loop
 mul-after c = search needs
