@@ -62,7 +62,7 @@ due-by limit size row r b some j = b .jobs j ∙ go (le-or-lt size j) (le-or-lt 
 
     go : (size ≤ j) ⊎ (j < size) → (limit ≤ getD row j 0) ⊎ (getD row j 0 < limit) → (ltb j size && ltb (getD row j 0) limit) ≡ (ltb j size && leb (getD row j 0) (r .d))
     go (inl g) h = simp (le-ltb j size g)
-    go (inr l) (inl h) = simp (le-ltb (getD row j 0) limit h, lt-leb (getD row j 0) (r .d) (omega arith))
+    go (inr l) (inl h) = simp (le-ltb (getD row j 0) limit h, lt-leb (getD row j 0) (r .d) (omega (arith, low)))
     go (inr l) (inr h) =
         let in-set : T (has (r .jobs) j) = rw (b .jobs j) (and-pair (ltb j size) (ltb (getD row j 0) limit) (lt→ltb j size l) (lt→ltb (getD row j 0) limit h)) in
         simp (lt-ltb (getD row j 0) limit h, le-leb (getD row j 0) (r .d) (b .top j in-set))

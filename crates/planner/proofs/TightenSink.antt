@@ -63,6 +63,11 @@ module _ (J : Jobs) (early : ℕ → ℕ) where
     pub sunk-none : time ≡ 0 → HasPlan 2 J (row-in first) → ⊥
     sunk-none z = bound-none J early (row-in first) (row-in (set row i time)) (sunk-put .bound) i l (getD-set-same row i time 0 (omega arith) ∙ z)
 
+-- a time stored keeps a row below d
+pub stored-low : (row : List ℕ) (i time d : ℕ) → i < length row → time ≤ d → (j : ℕ) → getD row j 0 ≤ d → getD (set row i time) j 0 ≤ d
+stored-low row i time d l h j g =
+    ⊎-elim (λ x. rw (eqb→eq j i x, getD-set-same row i time 0 l) h) (λ f. rw (getD-set-other row i j time 0 (λ x. f (subst (λ (n : ℕ). T (eqb j n)) x (eqb-refl j)))) g) (test (eqb j i))
+
 -- ---- followers among the jobs that moved
 pub followed : (J : Jobs) (followers : List ℕ) (i moved : ℕ) → i < J .size → Follows J followers →
     (j : ℕ) → T (has (bitAnd (getD followers i 0) moved) j) → (j < J .size) × T (J .before i j)

@@ -41,7 +41,7 @@ fn pressure<'a>(job: JobIndex, held: usize, d: usize, due: u64, followers: u64, 
 // The latest time that the rule leaves a job at d: 0 where it leaves none.
 pub fn lowered<'a>(job: JobIndex, held: usize, d: usize, due: u64, followers: u64, early: &'a [usize; 65], late: &'a [u64; 65], next: &'a [usize; 65]) -> usize
     requires { ⌜ Steps (now early) (now next) × (job .0 < 64) × (held ≤ d) × (d < 65536) ⌝ }
-    ensures { λ r. ⌜ ((J : Jobs) (row : ℕ → ℕ) → At J row (job .0) held d due followers (now (early .entry)) (now (late .entry)) (now (next .entry)) → Earliest J (row-in (now (early .entry))) → Ruled J (row-in (now (early .entry))) row (job .0) d r) ⌝ }
+    ensures { λ r. ⌜ (r ≤ held) × ((J : Jobs) (row : ℕ → ℕ) → At J row (job .0) held d due followers (now (early .entry)) (now (late .entry)) (now (next .entry)) → Earliest J (row-in (now (early .entry))) → Ruled J (row-in (now (early .entry))) row (job .0) d r) ⌝ }
 {
     let i = job.0;
     if held <= early[i] {

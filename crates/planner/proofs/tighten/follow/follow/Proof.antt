@@ -1,3 +1,20 @@
+-- `planner::tighten::follow::follow` meets its contract.
+-- Assumes nothing.
+use mathlib.Core.Logic.{_⊎_, inl, inr, ⊎-elim}
+use mathlib.Core.Path.{_≡_, refl, sym, ap, subst, _∙_}
+use Prim.Native.Nat.{ℕ, _+_, _-_, _≤_, _<_}
+use native.Mathlib.Omega.{arith}
+use borrow.Author.Needs.{needs}
+use lib.Dec.{T, ltb}
+use lib.ListN.{length, length-set, getD, set}
+use Rattle.schedule.specs.Count.{count}
+use Rattle.planner.specs.Sets.{has}
+use Rattle.schedule.specs.Jobs.{Jobs}
+use Rattle.schedule.specs.Times.{Raised}
+use Rattle.planner.specs.Told.{row-in}
+use Rattle.planner.specs.Inner.Tables.{Follows}
+use Rattle.planner.specs.Inner.Lower.{Eased, Sunk, Fits}
+use Rattle.planner.proofs.TightenSink.{sunk-same, sunk-put, sunk-none, followed}
 use Rattle.planner.proofs.tighten.follow.follow.Statement.{statement}
 use Rattle.planner.proofs.tighten.follow.follow.Tie as tie
 use Rattle.planner.proofs.tighten.follow.follow.Reads as reads
@@ -6,82 +23,102 @@ use Rattle.planner.proofs.sets.with.Reads as with-reads
 use Rattle.planner.proofs.tighten.follow.capped.Reads as capped-reads
 
 abbrev Inv-loop : tie.InvT-loop
-Inv-loop size changed order followers row₀ moved₀ k₀ row moved k = ?
+Inv-loop size changed order followers row₀ moved₀ k₀ row moved k = (k ≤ size) × (length row ≡ 64) × ((J : Jobs) (early : ℕ → ℕ) → J .size ≡ size → Follows J followers → Raised J early → Sunk J early row₀ row)
 
 abbrev μ-loop : tie.MeasureT-loop
-μ-loop size changed order followers row₀ moved₀ k₀ row moved k = ?
+μ-loop size changed order followers row₀ moved₀ k₀ row moved k = k
 
--- src/tighten/follow.rt:22:5
+-- the job looked at
+in-row : (c : tie.In-loop Inv-loop μ-loop) → getD (c .before .before .args .order .now) (c .before .loop .k - 1) 0 < c .before .before .args .size
+in-row c = c .before .before .pre .2 (c .before .loop .k - 1) (omega arith)
+
+-- its new time loses nothing
+eased : (c : tie.After-capped Inv-loop μ-loop) (J : Jobs) (early : ℕ → ℕ) → J .size ≡ c .before .before .before .before .before .before .before .args .size → Follows J (c .before .before .before .before .before .before .before .args .followers .now) → Raised J early →
+    (getD (c .before .before .before .before .before .before .before .args .order .now) (c .before .before .before .before .before .before .loop .k - 1) 0 < J .size) × Eased J early (row-in (c .before .before .before .before .before .before .loop .row)) (getD (c .before .before .before .before .before .before .before .args .order .now) (c .before .before .before .before .before .before .loop .k - 1) 0) (c .capped .result)
+eased c J early e f r =
+    let l : getD (c .before .before .before .before .before .before .before .args .order .now) (c .before .before .before .before .before .before .loop .k - 1) 0 < J .size = omega (arith, in-row (c .before .before .before .before .before), e) in
+    (l, c .capped .ensures J early (getD (c .before .before .before .before .before .before .before .args .order .now) (c .before .before .before .before .before .before .loop .k - 1) 0) l refl (followed J (c .before .before .before .before .before .before .before .args .followers .now) (getD (c .before .before .before .before .before .before .before .args .order .now) (c .before .before .before .before .before .before .loop .k - 1) 0) (c .before .before .before .before .before .before .loop .moved) l f) r)
+
+-- and is stored
+kept : (c : tie.After-capped Inv-loop μ-loop) →
+    (c .before .before .before .before .before .before .loop .k - 1 ≤ c .before .before .before .before .before .before .before .args .size) × (length (set (c .before .before .before .before .before .before .loop .row) (getD (c .before .before .before .before .before .before .before .args .order .now) (c .before .before .before .before .before .before .loop .k - 1) 0) (c .capped .result)) ≡ 64)
+    × ((J : Jobs) (early : ℕ → ℕ) → J .size ≡ c .before .before .before .before .before .before .before .args .size → Follows J (c .before .before .before .before .before .before .before .args .followers .now) → Raised J early →
+    Sunk J early (c .before .before .before .before .before .before .before .args .row .now) (set (c .before .before .before .before .before .before .loop .row) (getD (c .before .before .before .before .before .before .before .args .order .now) (c .before .before .before .before .before .before .loop .k - 1) 0) (c .capped .result)))
+kept c =
+    let p = c .before .before .before .before .before .before in (
+      omega (arith, p .loop .inv .0),
+      simp length-set (p .loop .inv .1),
+      (λ J early e f r.
+          let x = eased c J early e f r in
+          sunk-put J early (p .before .args .row .now) (p .loop .row) (getD (c .before .before .before .before .before .before .before .args .order .now) (c .before .before .before .before .before .before .loop .k - 1) 0) (c .capped .result) (omega (arith, p .before .pre .0)) (p .loop .inv .1) (p .loop .inv .2 J early e f r) (x .0) (x .1)),
+    )
+
 loop-holds : tie.Need-loop-holds Inv-loop μ-loop
-loop-holds c = ?
+loop-holds c = (search needs, c .pre .1, (λ J early e f r. sunk-same J early (c .args .row .now)))
 
--- src/tighten/follow.rt:23:9
 sub-k : tie.Need-sub-k Inv-loop μ-loop
-sub-k c = ?
+sub-k c = search needs
 
--- src/tighten/follow.rt:24:17
 mul-i : tie.Need-mul-i Inv-loop μ-loop
-mul-i c = ?
+mul-i c = search needs
 
--- src/tighten/follow.rt:24:17
 element-copy-out-i : tie.Need-element-copy-out-i Inv-loop μ-loop
-element-copy-out-i c = ?
+element-copy-out-i c = search needs
 
--- src/tighten/follow.rt:25:20
 mul-held : tie.Need-mul-held Inv-loop μ-loop
-mul-held c = ?
+mul-held c = omega (arith, in-row (c .before))
 
--- src/tighten/follow.rt:25:20
 element-copy-out-held : tie.Need-element-copy-out-held Inv-loop μ-loop
-element-copy-out-held c = ?
+element-copy-out-held c = omega (arith, in-row (c .before))
 
--- src/tighten/follow.rt:26:33
 mul-capped : tie.Need-mul-capped Inv-loop μ-loop
-mul-capped c = ?
+mul-capped c = omega (arith, in-row (c .before .before))
 
--- src/tighten/follow.rt:26:33
 element-copy-out-capped : tie.Need-element-copy-out-capped Inv-loop μ-loop
-element-copy-out-capped c = ?
+element-copy-out-capped c = omega (arith, in-row (c .before .before))
 
--- src/tighten/follow.rt:26:13
 capped-requires : tie.Need-capped-requires Inv-loop μ-loop
-capped-requires c κs = ?
+capped-requires c κs = search needs
 
--- src/tighten/follow.rt:27:9
 mul-row : tie.Need-mul-row Inv-loop μ-loop
-mul-row c = ?
+mul-row c = omega (arith, in-row (c .before .before .before .before .before))
 
--- src/tighten/follow.rt:27:9
 element-write-row : tie.Need-element-write-row Inv-loop μ-loop
-element-write-row c = ?
+element-write-row c = omega (arith, in-row (c .before .before .before .before .before))
 
--- src/tighten/follow.rt:29:13
 returns : tie.Need-returns Inv-loop μ-loop
-returns c = ?
+returns c = 
+    let p = c .before .before .before .before .before .before .before in
+    let a = p .before .args in
+    let i = getD (a .order .now) (p .loop .k - 1) 0 in (
+      simp length-set (p .loop .inv .1),
+      (λ J early e f r.
+          let x = eased (c .before) J early e f r in
+          record {
+            sunk = λ b. absurd (subst T (sym b) tt);
+            none = λ b. sunk-none J early (a .row .now) (p .loop .row) i (c .before .capped .result) (omega (arith, p .before .pre .0)) (p .loop .inv .1) (p .loop .inv .2 J early e f r) (x .0) (x .1) (c .if1 .taken);
+          }),
+    )
 
--- src/tighten/follow.rt:32:13
 with-requires : tie.Need-with-requires Inv-loop μ-loop
-with-requires c κs = ?
+with-requires c κs = omega (arith, in-row (c .before .before .before .before .before .before .before))
 
--- src/tighten/follow.rt:22:5
 loop-less : tie.Need-loop-less Inv-loop μ-loop
-loop-less c = ?
+loop-less c = search needs
 
--- src/tighten/follow.rt:22:5
 loop-again : tie.Need-loop-again Inv-loop μ-loop
-loop-again c = ?
+loop-again c = kept (c .before .before .before)
 
--- src/tighten/follow.rt:22:5
 loop-less-2 : tie.Need-loop-less-2 Inv-loop μ-loop
-loop-less-2 c = ?
+loop-less-2 c = search needs
 
--- src/tighten/follow.rt:22:5
 loop-again-2 : tie.Need-loop-again-2 Inv-loop μ-loop
-loop-again-2 c = ?
+loop-again-2 c = kept (c .before .before)
 
--- src/tighten/follow.rt:16:1
 returns-2 : tie.Need-returns-2 Inv-loop μ-loop
-returns-2 c = ?
+returns-2 c = 
+    let p = c .before in
+    (p .loop .inv .1, (λ J early e f r. record { sunk = λ b. p .loop .inv .2 J early e f r; none = λ b. absurd (subst T b tt) }))
 
 pub follow-spec : {M : Type 1} → statement M
 follow-spec =

@@ -25,10 +25,10 @@ element-copy-out-if1 : tie.Need-element-copy-out-if1
 element-copy-out-if1 c = search needs
 
 returns : tie.Need-returns
-returns c J row x e =
+returns c = 
     let a = c .before .before .args in
     let E = row-in (a .early .now) in
-    ruled-shut J E row (a .job .0) (x .job) e (a .d) (omega (arith, x .holds))
+    (search needs, (λ J row x e. ruled-shut J E row (a .job .0) (x .job) e (a .d) (omega (arith, x .holds))))
 
 pressure-requires : tie.Need-pressure-requires
 pressure-requires c κs = search needs
@@ -40,10 +40,10 @@ add-if2 : tie.Need-add-if2
 add-if2 c = search needs
 
 returns-2 : tie.Need-returns-2
-returns-2 c J row x e =
+returns-2 c = 
     let a = c .before .before .before .before .args in
     let E = row-in (a .early .now) in
-    rw (sym (x .holds)) (ruled-still J E row (a .job .0) (x .job) e (a .d) (c .before .pressure .result) (omega (arith, x .holds)) (omega (arith, x .holds)) (c .before .pressure .ensures .1 J row x) (omega (arith, x .holds)))
+    (search needs, (λ J row x e. rw (sym (x .holds)) (ruled-still J E row (a .job .0) (x .job) e (a .d) (c .before .pressure .result) (omega (arith, x .holds)) (omega (arith, x .holds)) (c .before .pressure .ensures .1 J row x) (omega (arith, x .holds)))))
 
 mul-if3 : tie.Need-mul-if3
 mul-if3 c = search needs
@@ -55,19 +55,19 @@ add-if3 : tie.Need-add-if3
 add-if3 c = search needs
 
 returns-3 : tie.Need-returns-3
-returns-3 c J row x e =
+returns-3 c = 
     let a = c .before .before .before .before .before .before .args in
     let E = row-in (a .early .now) in
-    ruled-full J E row (a .job .0) (x .job) e (a .d) (c .before .before .before .pressure .result) (omega (arith, x .holds)) (omega (arith, x .holds)) (c .before .before .before .pressure .ensures .1 J row x) (omega (arith, x .holds)) (c .if3 .taken)
+    (search needs, (λ J row x e. ruled-full J E row (a .job .0) (x .job) e (a .d) (c .before .before .before .pressure .result) (omega (arith, x .holds)) (omega (arith, x .holds)) (c .before .before .before .pressure .ensures .1 J row x) (omega (arith, x .holds)) (c .if3 .taken)))
 
 sub-result : tie.Need-sub-result
 sub-result c = search needs
 
 returns-4 : tie.Need-returns-4
-returns-4 c J row x e =
+returns-4 c = 
     let a = c .before .before .before .before .before .before .args in
     let E = row-in (a .early .now) in
-    ruled-lower J E row (a .job .0) (x .job) e (a .d) (c .before .before .before .pressure .result) (omega (arith, x .holds)) (omega (arith, x .holds)) (c .before .before .before .pressure .ensures .1 J row x) (omega (arith, x .holds)) (c .if3 .left)
+    (search needs, (λ J row x e. ruled-lower J E row (a .job .0) (x .job) e (a .d) (c .before .before .before .pressure .result) (omega (arith, x .holds)) (omega (arith, x .holds)) (c .before .before .before .pressure .ensures .1 J row x) (omega (arith, x .holds)) (c .if3 .left)))
 
 pub lowered-spec : {M : Type 1} → statement M
 lowered-spec =
