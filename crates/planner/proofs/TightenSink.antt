@@ -1,6 +1,6 @@
 -- A row sinks, job by job and d by d.
 -- Assumes nothing.
-use mathlib.Core.Bool.{Bool, true, not, _&&_, _||_}
+use mathlib.Core.Bool.{Bool, true, false, not, _&&_, _||_}
 use mathlib.Core.List.{List}
 use mathlib.Core.Logic.{_⊎_, inl, inr, ⊎-elim}
 use mathlib.Core.Path.{_≡_, refl, sym, ap, ap₂, subst, _∙_}
@@ -8,14 +8,14 @@ use Prim.Native.Nat.{ℕ, _+_, _-_, _≤_, _<_}
 use native.Mathlib.Nat.{le-antisymm}
 use native.Mathlib.Omega.{arith}
 use borrow.Author.Tests.{lt-ltb, le-leb}
-use lib.Bits.{bitAnd, bitOr}
+use lib.Bits.{bitAnd, bitOr, or-add-and, and-le-l}
 use lib.Dec.{T, eqb, eqb→eq, eqb-refl, leb, leb→le, le→leb, ltb, ltb→lt, lt→ltb}
 use lib.ListN.{length, getD, set}
 use lib.Seq.{getD-set-same, getD-set-other, set-getD}
 use Rattle.schedule.specs.Jobs.{Jobs}
 use Rattle.schedule.specs.Row.{put}
 use Rattle.schedule.specs.Plan.{HasPlan}
-use Rattle.schedule.specs.Times.{Consistent}
+use Rattle.schedule.specs.Times.{Consistent, Earliest}
 use Rattle.schedule.proofs.Tests.{test, and-pair, and-fst, and-snd, or-right, le-or-lt}
 use Rattle.schedule.proofs.Loop.{put-set}
 use Rattle.schedule.proofs.Exist.{Bound}
@@ -24,10 +24,12 @@ use Rattle.planner.specs.declared.tighten.Due.{Due}
 use Rattle.planner.specs.declared.tighten.Moved.{Moved}
 use Rattle.planner.specs.declared.tighten.Moved.the-variants.{Jobs as Those, Shut}
 use Rattle.planner.specs.Sets.{has}
-use Rattle.planner.specs.Told.{row-in}
+use Rattle.planner.specs.Told.{jobs-in, row-in}
 use Rattle.planner.specs.Inner.Tables.{Follows}
-use Rattle.planner.specs.Inner.Lower.{DueBy, DueBelow, Clear, Eased, Ruled, Sunk, Fell, Moves, AtD, Swept}
-use Rattle.planner.proofs.Bits.{and-has, or-has, has-some, walk-split}
+use Rattle.planner.specs.Inner.Tighten.{Tightens}
+use Rattle.planner.specs.Inner.Lower.{DueBy, DueBelow, Clear, Eased, Ruled, Sunk, Fell, Moves, AtD, Swept, Settles}
+use Rattle.planner.proofs.Bits.{and-has, has-some, walk-split}
+use Rattle.planner.proofs.Same.{latest-any}
 use Rattle.planner.proofs.TightenLower.{bound-join, bound-same, bound-none}
 
 holds : (b : Bool) → T b → b ≡ true
@@ -163,8 +165,8 @@ module _ (J : Jobs) (early : ℕ → ℕ) (first row : List ℕ) (moved limit : 
           subst (λ (n : ℕ). AtD J early (row-in first) n) (sym top) (subst (λ (x : List ℕ). AtD J early (row-in x) (r .d)) (q .still z .0) clear)
 
   -- some jobs moved, and those before them followed
-  pub passing-moved : (low next : List ℕ) (more all : ℕ) → (all ≡ 0 → ⊥) → Sunk J early row low → Fell J row low → Sunk J early low next → Passing J early first next all (r .d)
-  passing-moved low next more all some x f y = record {
+  pub passing-moved : (low next : List ℕ) (all : ℕ) → (all ≡ 0 → ⊥) → Sunk J early row low → Fell J row low → Sunk J early low next → Passing J early first next all (r .d)
+  passing-moved low next all some x f y = record {
     sunk = sunk-join J early first row next (q .sunk) (sunk-join J early row low next x y);
     still = λ z. absurd (some z);
     fell = λ g. fell-then J early first row low (q .sunk) next f y;
@@ -179,8 +181,8 @@ module _ (J : Jobs) (early : ℕ → ℕ) (first row : List ℕ) (moved limit : 
   )
 
 -- two sets joined are empty only where both are
-pub or-some : (x y j : ℕ) → T (has y j) → bitOr x y ≡ 0 → ⊥
-or-some x y j t = has-some (bitOr x y) j (rw (or-has x y j) (or-right (has x j) (has y j) t))
+pub or-some : (x y : ℕ) → (y ≡ 0 → ⊥) → bitOr x y ≡ 0 → ⊥
+or-some x y f z = f (omega (arith, or-add-and x y, and-le-l x y))
 
 -- ---- a row that is clear at every d of its own is consistent
 pub swept-consistent : (J : Jobs) (early row : ℕ → ℕ) → Swept J early row → Consistent 2 J early row
@@ -189,3 +191,23 @@ swept-consistent J early row s = consistent-few 2 (omega arith) J early row (λ 
     none : (i : ℕ) → i < J .size → Few 2 J early row i → ⊥
     none i l (own k lk b) = s k lk i l (b .within .by) .own b
     none i l (other j k lj lk b) = s k lk i l (b .within .by) .other j lj b
+
+-- ---- the whole
+module _ (size : ℕ) (start before row next : List ℕ) (long : length next ≡ 64) where
+  abbrev J : Jobs
+  J = jobs-in size start before
+
+  pub tightens-settled : (early mid : List ℕ) (fits : Bool) → Earliest J (row-in early) → Sunk J (row-in early) row mid → Settles J (row-in early) mid next fits → Tightens size start before row next fits
+  tightens-settled early mid fits e q s = record {
+    length = long;
+    latest = λ b other o. latest-any 2 J (row-in early) other (row-in row) (row-in next) e o
+        (record { consistent = swept-consistent J (row-in early) (row-in next) (s .swept b); beneath = sunk b .bound .beneath; greatest = sunk b .bound .rows });
+    rest = λ b. sunk b .rest;
+    none = λ b. none-join J (row-in early) row mid mid q (s .none b);
+  }
+    where
+      sunk : fits ≡ true → Sunk J (row-in early) row next
+      sunk b = sunk-join J (row-in early) row mid next q (s .sunk b)
+
+  pub tightens-none : (HasPlan 2 J (row-in row) → ⊥) → Tightens size start before row next false
+  tightens-none f = record { length = long; latest = λ b. absurd (subst T (sym b) tt); rest = λ b. absurd (subst T (sym b) tt); none = λ b. f }
