@@ -260,7 +260,7 @@ module _ (x y k : ℕ) (w : (j : ℕ) → has y j ≡ (has x j && not (eqb j k))
   pub walk-one : k < 64 → T (has x k) → count 64 (has x) ≡ count 64 (has y) + 1
   walk-one l t =
       let but : count 64 (λ j. not (eqb j k) && has x j) ≤ count 64 (has y) = count-mono 64 (λ j. not (eqb j k) && has x j) (has y)
-          (λ j h u. rw (w j) (and-pair (has x j) (not (eqb j k)) (and-snd (not (eqb j k)) (has x j) u) (and-fst (not (eqb j k)) (has x j) u))) in
+      (λ j h u. rw (w j) (and-pair (has x j) (not (eqb j k)) (and-snd (not (eqb j k)) (has x j) u) (and-fst (not (eqb j k)) (has x j) u))) in
       omega (arith, walk-less l t, count-but 64 (has x) k)
 
 -- sets apart have an empty meet

@@ -4,7 +4,7 @@ use mathlib.Core.Bool.{Bool, true, false, not, _&&_}
 use mathlib.Core.List.{List}
 use mathlib.Core.Logic.{_⊎_, inl, inr, ⊎-elim}
 use mathlib.Core.Path.{_≡_, refl, sym, ap, subst, _∙_}
-use Prim.Native.Nat.{ℕ, zero, suc, _+_, _-_, _≤_, _<_}
+use Prim.Native.Nat.{ℕ, zero, suc, _+_, _≤_, _<_}
 use native.Mathlib.Omega.{arith}
 use lib.Dec.{T, eqb, ltb, ltb→lt}
 use lib.ListN.{length, length-set, getD, set}
@@ -22,9 +22,9 @@ use Rattle.schedule.proofs.Rows.{Put, put-cases, put-all, put-same}
 use Rattle.planner.specs.Sets.{has}
 use Rattle.planner.specs.Told.{jobs-in, row-in}
 use Rattle.planner.specs.Inner.Early.{Free, After, Startable, Begins}
-use Rattle.schedule.proofs.Tests.{test, le-by, le-or-lt}
+use Rattle.schedule.proofs.Tests.{test, le-by}
 use Rattle.schedule.proofs.Early.{raise, raise-earliest}
-use Rattle.planner.proofs.Bits.{walk-sub, walk-split, walk-one, has-some, has-below, count-cut, count-same}
+use Rattle.planner.proofs.Bits.{walk-sub, walk-split, walk-one, has-some, count-cut}
 
 -- ---- after every job of a set: what is known while the set is walked
 pub record Reached (start set : ℕ) (early : List ℕ) (time rest : ℕ) : Type 0 where
@@ -79,13 +79,17 @@ module _ (J : Jobs) (early : ℕ → ℕ) (e : Earliest J early) where
   -- no job is later than the last start and a slot for each job
   pub earliest-low : Closed J → Loopless J → ((i : ℕ) → i < J .size → J .start i ≤ 4095) → (i : ℕ) → i < J .size → early i ≤ 4095 + J .size
   earliest-low closed loopless h i l =
-      omega (arith, count-bound (J .size) (λ a. J .before a i), e .least (λ j. 4095 + count (J .size) (λ a. J .before a j)) (record {
-        above = λ j lj. omega (arith, h j lj);
-        apart = λ a b la lb t.
-            let less : count (J .size) (λ x. J .before x a) < count (J .size) (λ x. J .before x b) =
-            count-lt (J .size) (λ x. J .before x a) (λ x. J .before x b) a la (λ x lx y. closed .joins x a b lx la lb y t) t (loopless .never a la) in
-            omega arith;
-      }) i l)
+      omega (
+        arith,
+        count-bound (J .size) (λ a. J .before a i),
+        e .least (λ j. 4095 + count (J .size) (λ a. J .before a j)) (record {
+          above = λ j lj. omega (arith, h j lj);
+          apart = λ a b la lb t.
+              let less : count (J .size) (λ x. J .before x a) < count (J .size) (λ x. J .before x b) =
+              count-lt (J .size) (λ x. J .before x a) (λ x. J .before x b) a la (λ x lx y. closed .joins x a b lx la lb y t) t (loopless .never a la) in
+              omega arith;
+        }) i l,
+      )
 
   -- among the jobs to do, the first of all waits for none
   pub some-free : (todo : ℕ) → 0 < count (J .size) (has todo) →
@@ -151,7 +155,7 @@ module _ (size : ℕ) (start before : List ℕ) (s : Startable size start before
     pub making-free : k < size → (i : ℕ) × (i < 64) × Free i (getD before i 0) todo
     making-free l =
         let n : count 64 (has todo) ≡ count size (has todo) = count-cut size 64 (has todo) (has todo) (s .few) (λ j x. refl)
-            (λ j g. ⊎-elim (λ t. absurd (omega (arith, q .held j t))) (λ f. none (has todo j) f) (test (has todo j))) in
+        (λ j g. ⊎-elim (λ t. absurd (omega (arith, q .held j t))) (λ f. none (has todo j) f) (test (has todo j))) in
         let x = some-free J E e todo (omega (arith, q .left)) in
         (x .0, omega (arith, x .1, s .few), record { member = x .2; ready = λ a t u. x .3 a (s .held a (x .0) t .0) t u })
       where

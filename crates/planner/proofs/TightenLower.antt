@@ -1,24 +1,20 @@
 -- A row lowered at one job, and step by step.
 -- Assumes nothing.
-use mathlib.Core.List.{List}
-use mathlib.Core.Logic.{_⊎_, inl, inr, ⊎-elim}
-use mathlib.Core.Path.{_≡_, refl, sym, ap, subst, _∙_}
-use Prim.Native.Nat.{ℕ, _+_, _-_, _*_, _/_, _≤_, _<_}
+use mathlib.Core.Logic.{⊎-elim}
+use mathlib.Core.Path.{_≡_, refl}
+use Prim.Native.Nat.{ℕ, _+_, _-_, _/_, _≤_, _<_}
 use native.Mathlib.Nat.{le-trans}
 use native.Mathlib.Omega.{arith}
 use lib.Dec.{T}
-use lib.ListN.{length, getD}
 use Rattle.schedule.specs.Jobs.{Jobs}
-use Rattle.schedule.specs.Row.{put}
 use Rattle.schedule.specs.Plan.{Valid, Meets, HasPlan}
-use Rattle.schedule.specs.Times.{N, up, left, Within, Breach, Consistent, Raised, Earliest, Beneath}
-use Rattle.schedule.proofs.Tests.{le-or-lt}
-use Rattle.schedule.proofs.Rows.{put-all, put-le, put-same}
+use Rattle.schedule.specs.Times.{N, up, left, Breach, Consistent, Raised, Earliest, Beneath}
+use Rattle.schedule.proofs.Rows.{put-all, put-le}
 use Rattle.schedule.proofs.Sound.{valid-above}
 use Rattle.schedule.proofs.Facts.{follower-later}
-use Rattle.schedule.proofs.Lower.{plan-under, row-under, left-less}
-use Rattle.schedule.proofs.Exist.{Bound, Hopeless, bound-start, bound-lower, bound-shut}
-use Rattle.planner.specs.Inner.Lower.{Pressure, Clear, Eased, Ruled}
+use Rattle.schedule.proofs.Lower.{plan-under, row-under}
+use Rattle.schedule.proofs.Exist.{Bound}
+use Rattle.planner.specs.Inner.Lower.{Pressure, Eased, Ruled}
 
 -- one bound after another
 pub bound-join : (J : Jobs) (early due row next : ℕ → ℕ) → Bound 2 J early due row → Bound 2 J early row next → Bound 2 J early due next

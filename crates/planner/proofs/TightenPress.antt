@@ -3,21 +3,20 @@
 use mathlib.Core.Bool.{Bool, true, false, not, _&&_, _||_}
 use mathlib.Core.List.{List}
 use mathlib.Core.Logic.{_⊎_, inl, inr, ⊎-elim}
-use mathlib.Core.Path.{_≡_, refl, sym, ap, ap₂, subst, _∙_}
-use Prim.Native.Nat.{ℕ, _+_, _-_, _*_, _≤_, _<_}
+use mathlib.Core.Path.{_≡_, refl, sym, ap, ap₂, _∙_}
+use Prim.Native.Nat.{ℕ, _-_, _*_, _≤_, _<_}
 use native.Mathlib.Nat.{le-refl}
 use native.Mathlib.Omega.{arith}
 use borrow.Author.Tests.{lt-ltb, le-ltb, le-leb, lt-leb}
-use lib.Dec.{T, eqb, ltb, leb}
+use lib.Dec.{eqb, ltb, leb}
 use lib.ListN.{getD}
 use Rattle.schedule.specs.Count.{count}
 use Rattle.schedule.specs.Jobs.{Jobs}
-use Rattle.schedule.specs.Times.{N, presses, Within}
+use Rattle.schedule.specs.Times.{N, presses}
 use Rattle.schedule.proofs.Tests.{le-or-lt}
 use Rattle.schedule.proofs.Press.{N-mono, N-bound}
 use Rattle.planner.specs.Sets.{has, pressed}
 use Rattle.planner.specs.Told.{row-in}
-use Rattle.planner.specs.Inner.Tables.{Starts, Table}
 use Rattle.planner.specs.Inner.Lower.{At, Pressure}
 use Rattle.planner.proofs.Bits.{empty-has, count-cut}
 

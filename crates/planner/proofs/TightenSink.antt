@@ -4,7 +4,7 @@ use mathlib.Core.Bool.{Bool, true, false, not, _&&_, _||_}
 use mathlib.Core.List.{List}
 use mathlib.Core.Logic.{_⊎_, inl, inr, ⊎-elim}
 use mathlib.Core.Path.{_≡_, refl, sym, ap, ap₂, subst, _∙_}
-use Prim.Native.Nat.{ℕ, _+_, _-_, _≤_, _<_}
+use Prim.Native.Nat.{ℕ, _≤_, _<_}
 use native.Mathlib.Nat.{le-antisymm}
 use native.Mathlib.Omega.{arith}
 use borrow.Author.Tests.{lt-ltb, le-leb}
@@ -18,11 +18,9 @@ use Rattle.schedule.specs.Plan.{HasPlan}
 use Rattle.schedule.specs.Times.{Consistent, Earliest}
 use Rattle.schedule.proofs.Tests.{test, and-pair, and-fst, and-snd, or-right, le-or-lt}
 use Rattle.schedule.proofs.Loop.{put-set}
-use Rattle.schedule.proofs.Exist.{Bound}
 use Rattle.schedule.proofs.Few.{Few, own, other, consistent-few}
 use Rattle.planner.specs.declared.tighten.Due.{Due}
-use Rattle.planner.specs.declared.tighten.Moved.{Moved}
-use Rattle.planner.specs.declared.tighten.Moved.the-variants.{Jobs as Those, Shut}
+use Rattle.planner.specs.declared.tighten.Moved.the-variants.{Jobs as Those}
 use Rattle.planner.specs.Sets.{has}
 use Rattle.planner.specs.Told.{jobs-in, row-in}
 use Rattle.planner.specs.Inner.Tables.{Follows}
@@ -117,9 +115,12 @@ module _ (J : Jobs) (early : ℕ → ℕ) (first row : List ℕ) (d due moved re
     lowering-kept h = subst (λ (x : List ℕ). Lowering J early first x d due moved left) (sym as-was) (record {
       soon = q .soon;
       sunk = q .sunk;
-      still = λ z. (q .still z .0, (λ j t. ⊎-elim
-          (λ u. ⊎-elim (λ x. inr (rw x (subst (λ (y : List ℕ). Clear J early (row-in y) i d) (q .still z .0) (r .clear some same)))) (λ x. inl x) (walk-split rest left i w j u))
-          (λ u. inr u) (q .still z .1 j t)));
+      still = λ z. (
+        q .still z .0,
+        (λ j t. ⊎-elim
+            (λ u. ⊎-elim (λ x. inr (rw x (subst (λ (y : List ℕ). Clear J early (row-in y) i d) (q .still z .0) (r .clear some same)))) (λ x. inl x) (walk-split rest left i w j u))
+            (λ u. inr u) (q .still z .1 j t)),
+      );
       fell = q .fell;
     })
       where
@@ -132,8 +133,11 @@ module _ (J : Jobs) (early : ℕ → ℕ) (first row : List ℕ) (d due moved re
   pub lowering-moves : DueBy (J .size) (row-in first) d due → rest ≡ 0 → Moves J early first row (AtD J early (row-in first) d) (Those moved)
   lowering-moves s e = (
     q .sunk,
-    (λ z. (q .still z .0, (λ i l h. ⊎-elim (λ t. absurd (has-some rest i t e)) (λ c. c)
-        (q .still z .1 i (rw (s i) (and-pair (ltb i (J .size)) (leb (getD first i 0) d) (lt→ltb i (J .size) l) (le→leb (getD first i 0) d h))))))),
+    (λ z. (
+      q .still z .0,
+      (λ i l h. ⊎-elim (λ t. absurd (has-some rest i t e)) (λ c. c)
+          (q .still z .1 i (rw (s i) (and-pair (ltb i (J .size)) (leb (getD first i 0) d) (lt→ltb i (J .size) l) (le→leb (getD first i 0) d h))))),
+    )),
     q .fell,
   )
 
@@ -175,8 +179,11 @@ module _ (J : Jobs) (early : ℕ → ℕ) (first row : List ℕ) (moved limit : 
   pub passing-moves : r .jobs ≡ 0 → Moves J early first row (Swept J early (row-in first)) (Those moved)
   passing-moves e = (
     q .sunk,
-    (λ z. (q .still z .0, (λ k l. q .still z .1 k l (⊎-elim (λ g. g)
-        (λ g. absurd (has-some (r .jobs) k (in-set k l (omega (arith, ap (λ (x : List ℕ). getD x k 0) (q .still z .0)))) e)) (le-or-lt limit (getD first k 0)))))),
+    (λ z. (
+      q .still z .0,
+      (λ k l. q .still z .1 k l (⊎-elim (λ g. g)
+          (λ g. absurd (has-some (r .jobs) k (in-set k l (omega (arith, ap (λ (x : List ℕ). getD x k 0) (q .still z .0)))) e)) (le-or-lt limit (getD first k 0)))),
+    )),
     q .fell,
   )
 

@@ -3,8 +3,9 @@ mod early;
 mod follow;
 mod rule;
 mod tables;
-use schedule::JobIndex;
+
 use crate::sets;
+use schedule::JobIndex;
 ghost use mathlib.Core.Bool.{_&&_};
 ghost use mathlib.Core.Path.{_≡_};
 ghost use Prim.Native.Nat.{ℕ, _<_, _≤_};
@@ -54,7 +55,15 @@ pub fn tighten<'a>(
 }
 
 // Passes until one moves nothing.
-fn settled<'a>(size: usize, order: &'a [usize; 64], followers: &'a [u64; 64], early: &'a [usize; 65], late: &'a [u64; 65], next: &'a [usize; 65], row: &mut [u16; 64]) -> bool
+fn settled<'a>(
+    size: usize,
+    order: &'a [usize; 64],
+    followers: &'a [u64; 64],
+    early: &'a [usize; 65],
+    late: &'a [u64; 65],
+    next: &'a [usize; 65],
+    row: &mut [u16; 64],
+) -> bool
     requires { ⌜ (size ≤ 64) × (length (now row) ≡ 64) × ((k : ℕ) → k < size → getD (now order) k 0 < size) × Steps (now early) (now next) × ((i : ℕ) → i < size → getD (now row) i 0 < 65536) × ((J : Jobs) × (J .size ≡ size) × Known J (now followers) (now early) (now late) (now next)) ⌝ }
     ensures { λ r. ⌜ (length (now (row .exit)) ≡ 64) × ((J : Jobs) → J .size ≡ size → Known J (now (followers .entry)) (now (early .entry)) (now (late .entry)) (now (next .entry)) → Settles J (row-in (now (early .entry))) (now (row .entry)) (now (row .exit)) r) ⌝ }
 {
@@ -73,7 +82,15 @@ fn settled<'a>(size: usize, order: &'a [usize; 64], followers: &'a [u64; 64], ea
 }
 
 // Every d of the row, from the greatest down.
-fn pass<'a>(size: usize, order: &'a [usize; 64], followers: &'a [u64; 64], early: &'a [usize; 65], late: &'a [u64; 65], next: &'a [usize; 65], row: &mut [u16; 64]) -> Moved
+fn pass<'a>(
+    size: usize,
+    order: &'a [usize; 64],
+    followers: &'a [u64; 64],
+    early: &'a [usize; 65],
+    late: &'a [u64; 65],
+    next: &'a [usize; 65],
+    row: &mut [u16; 64],
+) -> Moved
     requires { ⌜ (size ≤ 64) × (length (now row) ≡ 64) × ((k : ℕ) → k < size → getD (now order) k 0 < size) × Steps (now early) (now next) × ((i : ℕ) → i < size → getD (now row) i 0 < 65536) ⌝ }
     ensures { λ r. ⌜ (length (now (row .exit)) ≡ 64) × ((J : Jobs) → J .size ≡ size → Known J (now (followers .entry)) (now (early .entry)) (now (late .entry)) (now (next .entry)) → Moves J (row-in (now (early .entry))) (now (row .entry)) (now (row .exit)) (Swept J (row-in (now (early .entry))) (row-in (now (row .entry)))) r) ⌝ }
 {
@@ -128,7 +145,15 @@ fn due_below(limit: usize, size: usize, row: &[u16; 64]) -> Due
 }
 
 // The rule at one d, for every job that is due.
-fn lower_at<'a>(d: usize, due: u64, followers: &'a [u64; 64], early: &'a [usize; 65], late: &'a [u64; 65], next: &'a [usize; 65], row: &mut [u16; 64]) -> Moved
+fn lower_at<'a>(
+    d: usize,
+    due: u64,
+    followers: &'a [u64; 64],
+    early: &'a [usize; 65],
+    late: &'a [u64; 65],
+    next: &'a [usize; 65],
+    row: &mut [u16; 64],
+) -> Moved
     requires { ⌜ Steps (now early) (now next) × (length (now row) ≡ 64) × ((j : ℕ) → T (has due j) → getD (now row) j 0 ≤ d) × (d < 65536) ⌝ }
     ensures { λ r. ⌜ (length (now (row .exit)) ≡ 64) × ((J : Jobs) → Known J (now (followers .entry)) (now (early .entry)) (now (late .entry)) (now (next .entry)) → DueBy (J .size) (row-in (now (row .entry))) d due → Moves J (row-in (now (early .entry))) (now (row .entry)) (now (row .exit)) (AtD J (row-in (now (early .entry))) (row-in (now (row .entry))) d) r) ⌝ }
 {

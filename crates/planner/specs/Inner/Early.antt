@@ -5,8 +5,8 @@ use mathlib.Core.Logic.{_⊎_}
 use mathlib.Core.Path.{_≡_}
 use Prim.Native.Nat.{ℕ, _+_, _≤_, _<_}
 use lib.Dec.{T}
-use lib.ListN.{length, getD}
-use Rattle.schedule.specs.Jobs.{Jobs, Closed, Loopless}
+use lib.ListN.{getD}
+use Rattle.schedule.specs.Jobs.{Closed, Loopless}
 use Rattle.schedule.specs.Times.{Earliest}
 use Rattle.planner.specs.Sets.{has}
 use Rattle.planner.specs.Told.{jobs-in, row-in}

@@ -10,14 +10,14 @@ use lib.ListN.{getD}
 use Rattle.schedule.specs.Jobs.{Jobs}
 use Rattle.schedule.specs.Row.{put}
 use Rattle.schedule.specs.Plan.{HasPlan}
-use Rattle.schedule.specs.Times.{N, up, Within, Breach, Earliest, Raised}
+use Rattle.schedule.specs.Times.{N, Within, Breach}
 use Rattle.schedule.proofs.Exist.{Bound}
 use Rattle.planner.specs.declared.tighten.Moved.{Moved}
 use Rattle.planner.specs.declared.tighten.Moved.the-variants.{Jobs as Those, Shut}
 use Rattle.planner.specs.declared.tighten.Due.{Due}
 use Rattle.planner.specs.Sets.{has}
 use Rattle.planner.specs.Told.{row-in}
-use Rattle.planner.specs.Inner.Tables.{Table, Follows, Known}
+use Rattle.planner.specs.Inner.Tables.{Table}
 
 -- the jobs of the row that are due by d
 abbrev pub DueBy : ℕ → (ℕ → ℕ) → ℕ → ℕ → Type 0

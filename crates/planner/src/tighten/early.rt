@@ -1,7 +1,7 @@
 // Earliest times, each job after those that precede it.
-use schedule::JobIndex;
 use crate::sets;
 use crate::tighten::wide;
+use schedule::JobIndex;
 ghost use mathlib.Core.Bool.{true, false};
 ghost use mathlib.Core.Path.{_≡_};
 ghost use Prim.Native.Nat.{ℕ, _<_, _≤_};
@@ -11,7 +11,13 @@ ghost use Rattle.planner.specs.Sets.{has};
 ghost use Rattle.planner.specs.Inner.Early.{Free, After, Startable, Begins};
 
 // Entry 64 of the row stands for no job, later than all. The order in which jobs are reached: predecessors first.
-pub fn earliest<'a>(size: usize, start: &'a [u16; 64], before: &'a [u64; 64], early: &mut [usize; 65], order: &mut [usize; 64])
+pub fn earliest<'a>(
+    size: usize,
+    start: &'a [u16; 64],
+    before: &'a [u64; 64],
+    early: &mut [usize; 65],
+    order: &mut [usize; 64],
+)
     requires { ⌜ Startable size (now start) (now before) × (length (now early) ≡ 65) × (length (now order) ≡ 64) × ((i : ℕ) → i < 65 → getD (now early) i 0 ≡ 65535) ⌝ }
     ensures { λ _. ⌜ Begins size (now (start .entry)) (now (before .entry)) (now (early .exit)) (now (order .exit)) ⌝ }
 {

@@ -1,6 +1,6 @@
 // Each job one below its least follower.
-use schedule::JobIndex;
 use crate::sets;
+use schedule::JobIndex;
 ghost use mathlib.Core.Path.{_≡_};
 ghost use Prim.Native.Nat.{ℕ, _<_, _≤_};
 ghost use lib.Dec.{T};
@@ -13,7 +13,13 @@ ghost use Rattle.planner.specs.Inner.Tables.{Follows};
 ghost use Rattle.planner.specs.Inner.Lower.{Eased, Fits};
 
 // Last jobs first, so that one walk serves whole chains; false where a job has no time left.
-pub fn follow<'a>(size: usize, changed: u64, order: &'a [usize; 64], followers: &'a [u64; 64], row: &mut [u16; 64]) -> bool
+pub fn follow<'a>(
+    size: usize,
+    changed: u64,
+    order: &'a [usize; 64],
+    followers: &'a [u64; 64],
+    row: &mut [u16; 64],
+) -> bool
     requires { ⌜ (size ≤ 64) × (length (now row) ≡ 64) × ((k : ℕ) → k < size → getD (now order) k 0 < size) ⌝ }
     ensures { λ r. ⌜ (length (now (row .exit)) ≡ 64) × ((J : Jobs) (early : ℕ → ℕ) → J .size ≡ size → Follows J (now (followers .entry)) → Raised J early → Fits J early (now (row .entry)) (now (row .exit)) r) ⌝ }
 {

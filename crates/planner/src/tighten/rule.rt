@@ -1,6 +1,6 @@
 // The rule for one job and one d.
-use schedule::JobIndex;
 use crate::sets;
+use schedule::JobIndex;
 ghost use mathlib.Core.Path.{_≡_};
 ghost use Prim.Native.Nat.{ℕ, _<_, _≤_};
 ghost use lib.ListN.{getD};
@@ -11,7 +11,16 @@ ghost use Rattle.planner.specs.Inner.Tables.{Steps};
 ghost use Rattle.planner.specs.Inner.Lower.{At, Pressure, Ruled};
 
 // N at the first s at which N is at least 2(d - s), 0 where there is none.
-fn pressure<'a>(job: JobIndex, held: usize, d: usize, due: u64, followers: u64, early: &'a [usize; 65], late: &'a [u64; 65], next: &'a [usize; 65]) -> usize
+fn pressure<'a>(
+    job: JobIndex,
+    held: usize,
+    d: usize,
+    due: u64,
+    followers: u64,
+    early: &'a [usize; 65],
+    late: &'a [u64; 65],
+    next: &'a [usize; 65],
+) -> usize
     requires { ⌜ Steps (now early) (now next) × (job .0 < 64) × (getD (now early) (job .0) 0 < held) × (held ≤ d) × (d < 65536) ⌝ }
     ensures { λ r. ⌜ (r ≤ 64) × ((J : Jobs) (row : ℕ → ℕ) → At J row (job .0) held d due followers (now (early .entry)) (now (late .entry)) (now (next .entry)) → Pressure J (row-in (now (early .entry))) row (job .0) d r) ⌝ }
 {
@@ -39,7 +48,16 @@ fn pressure<'a>(job: JobIndex, held: usize, d: usize, due: u64, followers: u64, 
 }
 
 // The latest time that the rule leaves a job at d: 0 where it leaves none.
-pub fn lowered<'a>(job: JobIndex, held: usize, d: usize, due: u64, followers: u64, early: &'a [usize; 65], late: &'a [u64; 65], next: &'a [usize; 65]) -> usize
+pub fn lowered<'a>(
+    job: JobIndex,
+    held: usize,
+    d: usize,
+    due: u64,
+    followers: u64,
+    early: &'a [usize; 65],
+    late: &'a [u64; 65],
+    next: &'a [usize; 65],
+) -> usize
     requires { ⌜ Steps (now early) (now next) × (job .0 < 64) × (held ≤ d) × (d < 65536) ⌝ }
     ensures { λ r. ⌜ (r ≤ held) × ((J : Jobs) (row : ℕ → ℕ) → At J row (job .0) held d due followers (now (early .entry)) (now (late .entry)) (now (next .entry)) → Earliest J (row-in (now (early .entry))) → Ruled J (row-in (now (early .entry))) row (job .0) d r) ⌝ }
 {

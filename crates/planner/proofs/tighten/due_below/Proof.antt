@@ -1,22 +1,12 @@
 -- `planner::tighten::due_below` meets its contract.
 -- Assumes nothing.
-use mathlib.Core.Logic.{_⊎_, inl, inr, ⊎-elim}
-use mathlib.Core.Path.{_≡_, refl, sym, ap, subst, _∙_}
-use Prim.Native.Nat.{ℕ, _+_, _-_, _≤_, _<_}
+use mathlib.Core.Logic.{⊎-elim}
+use Prim.Native.Nat.{_-_}
 use native.Mathlib.Omega.{arith}
 use borrow.Author.Needs.{needs}
-use lib.Dec.{T, ltb}
-use lib.ListN.{getD}
-use Rattle.schedule.specs.Count.{count}
-use Rattle.planner.specs.Sets.{has}
-use Rattle.planner.specs.Inner.Lower.{DueBelow}
 use Rattle.planner.proofs.TightenDue.{Gathered, gathered-none, gathered-more, gathered-same, gathered-low, gathered-due}
 use Rattle.planner.proofs.tighten.due_below.Statement.{statement}
 use Rattle.planner.proofs.tighten.due_below.Tie as tie
-use Rattle.planner.proofs.tighten.due_below.Reads as reads
-use Rattle.planner.proofs.tighten.due_below.Lts as lts
-use Rattle.planner.proofs.sets.with.Reads as with-reads
-use Rattle.planner.proofs.tighten.wide.Reads as wide-reads
 
 abbrev Inv-loop : tie.InvT-loop
 Inv-loop limit size row d₀ jobs₀ i₀ d jobs i = Gathered limit size row i d jobs
@@ -46,7 +36,7 @@ loop-less : tie.Need-loop-less Inv-loop μ-loop
 loop-less c = search needs
 
 loop-again : tie.Need-loop-again Inv-loop μ-loop
-loop-again c = 
+loop-again c =
     let p = c .before .before .before .before in
     let t = c .before .wide .ensures .0 in
     let a = p .before .args in

@@ -1,12 +1,12 @@
 -- `planner::tighten::lower_at` meets its contract.
 -- Assumes nothing.
-use mathlib.Core.Logic.{_⊎_, inl, inr, ⊎-elim}
-use mathlib.Core.Path.{_≡_, refl, sym, ap, subst, _∙_}
-use Prim.Native.Nat.{ℕ, _+_, _-_, _≤_, _<_}
+use mathlib.Core.Logic.{⊎-elim}
+use mathlib.Core.Path.{_≡_, sym}
+use Prim.Native.Nat.{ℕ, _≤_}
 use native.Mathlib.Omega.{arith}
 use borrow.Author.Needs.{needs}
 use lib.Dec.{T}
-use lib.ListN.{length, length-set, getD, set}
+use lib.ListN.{length, length-set, getD}
 use Rattle.schedule.specs.Count.{count}
 use Rattle.planner.specs.Sets.{has}
 use Rattle.schedule.specs.Jobs.{Jobs}
@@ -17,13 +17,6 @@ use Rattle.planner.proofs.Bits.{walk-less, walk-sub}
 use Rattle.planner.proofs.TightenSink.{Lowering, lowering-start, lowering-moved, lowering-kept, lowering-moves, due-job, stored-low, sunk-none}
 use Rattle.planner.proofs.tighten.lower_at.Statement.{statement}
 use Rattle.planner.proofs.tighten.lower_at.Tie as tie
-use Rattle.planner.proofs.tighten.lower_at.Reads as reads
-use Rattle.planner.proofs.tighten.lower_at.Lts as lts
-use Rattle.planner.proofs.sets.first.Reads as first-reads
-use Rattle.planner.proofs.sets.with.Reads as with-reads
-use Rattle.planner.proofs.sets.without.Reads as without-reads
-use Rattle.planner.proofs.tighten.rule.lowered.Reads as lowered-reads
-use Rattle.planner.proofs.tighten.wide.Reads as wide-reads
 
 abbrev Inv-loop : tie.InvT-loop
 Inv-loop d due followers early late next row₀ moved₀ rest₀ row moved rest = (length row ≡ 64) × ((j : ℕ) → T (has rest j) → T (has due j)) × ((j : ℕ) → T (has due j) → getD row j 0 ≤ d) × ((J : Jobs) → Known J followers early late next → DueBy (J .size) (row-in row₀) d due → Lowering J (row-in early) row₀ row d due moved rest)
@@ -66,7 +59,7 @@ element-copy-out-lowered : tie.Need-element-copy-out-lowered Inv-loop μ-loop
 element-copy-out-lowered c = search needs
 
 lowered-requires : tie.Need-lowered-requires Inv-loop μ-loop
-lowered-requires c κs = 
+lowered-requires c κs =
     let p = c .before .before .before .before .before in
     let f = c .before .before .before .first in
     (p .before .pre .0, f .ensures .0, omega (arith, c .before .wide .ensures .0, p .loop .inv .2 (f .result .0) (p .loop .inv .1 (f .result .0) (f .ensures .1))), p .before .pre .3)
@@ -81,7 +74,7 @@ element-write-row : tie.Need-element-write-row Inv-loop μ-loop
 element-write-row c = search needs
 
 returns : tie.Need-returns Inv-loop μ-loop
-returns c = 
+returns c =
     let p = c .before .before .before .before .before .before .before in
     let i = c .before .before .before .before .before .first .result .0 in (
       simp length-set (p .loop .inv .0),
@@ -98,12 +91,12 @@ without-requires : tie.Need-without-requires Inv-loop μ-loop
 without-requires c κs = search needs
 
 loop-less : tie.Need-loop-less Inv-loop μ-loop
-loop-less c = 
+loop-less c =
     let f = c .before .before .before .before .before .before .before .first in
     walk-less (c .before .before .before .before .before .before .before .before .before .loop .rest) (c .without .result) (f .result .0) (c .without .ensures) (f .ensures .0) (f .ensures .1)
 
 loop-again : tie.Need-loop-again Inv-loop μ-loop
-loop-again c = 
+loop-again c =
     let o = c .before .before .before in
     let p = c .before .before .before .before .before .before .before .before .before in
     let a = p .before .args in
@@ -123,7 +116,7 @@ loop-again c =
     )
 
 returns-2 : tie.Need-returns-2 Inv-loop μ-loop
-returns-2 c = 
+returns-2 c =
     let p = c .before in
     let a = p .before .args in
     (p .loop .inv .0, (λ J k s. lowering-moves J (row-in (a .early .now)) (a .row .now) (p .loop .row) (a .d) (a .due) (p .loop .moved) (p .loop .rest) (k .table .rising .few) (p .loop .inv .0) (p .loop .inv .3 J k s) s (c .loop-test .left)))

@@ -1,19 +1,14 @@
 -- `planner::tighten::pass` meets its contract.
 -- Assumes nothing.
-use mathlib.Core.Logic.{_⊎_, inl, inr, ⊎-elim}
-use mathlib.Core.Path.{_≡_, refl, sym, ap, subst, _∙_}
-use Prim.Native.Nat.{ℕ, _+_, _-_, _≤_, _<_}
+use mathlib.Core.Path.{_≡_, sym, subst}
+use Prim.Native.Nat.{ℕ, _≤_}
 use native.Mathlib.Omega.{arith}
 use borrow.Author.Needs.{needs}
-use lib.Dec.{T}
-use lib.ListN.{length, getD}
-use Rattle.schedule.specs.Count.{count}
-use Rattle.planner.specs.Sets.{has}
+use lib.ListN.{length}
 use borrow.Author.Tests.{not-true, not-false}
-use mathlib.Core.List.{List}
 use Rattle.schedule.specs.Jobs.{Jobs}
 use Rattle.planner.specs.declared.tighten.Moved.{Moved}
-use Rattle.planner.specs.declared.tighten.Moved.the-variants.{Jobs as Those, Shut}
+use Rattle.planner.specs.declared.tighten.Moved.the-variants.{Jobs as Those}
 use Rattle.planner.specs.Told.{row-in}
 use Rattle.planner.specs.Inner.Tables.{Known}
 use Rattle.planner.specs.Inner.Lower.{DueBelow, Moves, AtD}
@@ -21,11 +16,6 @@ use Rattle.planner.proofs.TightenDue.{due-by}
 use Rattle.planner.proofs.TightenSink.{Passing, passing-start, passing-still, passing-moved, passing-moves, none-join, or-some}
 use Rattle.planner.proofs.tighten.pass.Statement.{statement}
 use Rattle.planner.proofs.tighten.pass.Tie as tie
-use Rattle.planner.proofs.tighten.pass.Reads as reads
-use Rattle.planner.proofs.tighten.pass.Lts as lts
-use Rattle.planner.proofs.tighten.due_below.Reads as due-below-reads
-use Rattle.planner.proofs.tighten.follow.follow.Reads as follow-reads
-use Rattle.planner.proofs.tighten.lower_at.Reads as lower-at-reads
 
 abbrev Inv-loop : tie.InvT-loop
 Inv-loop size order followers early late next row₀ all₀ limit₀ row all limit = (length row ≡ 64) × (limit ≤ 65536) × ((J : Jobs) → J .size ≡ size → Known J followers early late next → Passing J (row-in early) row₀ row all limit)
@@ -49,14 +39,14 @@ due-below-requires : tie.Need-due-below-requires Inv-loop μ-loop
 due-below-requires c κs = search needs
 
 returns : tie.Need-returns Inv-loop μ-loop
-returns c = 
+returns c =
     let p = c .before .before .before .before in
     let a = p .before .args in
     let due = c .before .before .due-below in
     (p .loop .inv .0, (λ J e k. passing-moves J (row-in (a .early .now)) (a .row .now) (p .loop .row) (p .loop .all) (p .loop .limit) (p .loop .inv .2 J e k) (due .result) (subst (λ (n : ℕ). DueBelow (p .loop .limit) n (p .loop .row) (due .result)) (sym e) (due .ensures)) (c .if1 .taken)))
 
 lower-at-requires : tie.Need-lower-at-requires Inv-loop μ-loop
-lower-at-requires c κs = 
+lower-at-requires c κs =
     let p = c .before .before .before .before .before in
     let due = c .before .before .before .due-below in
     (p .before .pre .3, p .loop .inv .0, due .ensures .top, omega (arith, due .ensures .some (c .before .if1 .left), p .loop .inv .1))
@@ -68,7 +58,7 @@ follow-requires : tie.Need-follow-requires Inv-loop μ-loop
 follow-requires c κs = (c .before .before .before .before .before .before .before .before .before .before .before .before .pre .0, c .before .before .before .before .before .lower-at .ensures .0, c .before .before .before .before .before .before .before .before .before .before .before .before .pre .2)
 
 returns-2 : tie.Need-returns-2 Inv-loop μ-loop
-returns-2 c = 
+returns-2 c =
     let p = c .before .before .before .before .before .before .before .before .before .before .before .before .before in
     let a = p .before .args in
     let o = c .before .before .before .before in (
@@ -81,7 +71,7 @@ enum-told : tie.Need-enum-told Inv-loop μ-loop
 enum-told c = search needs
 
 returns-3 : tie.Need-returns-3 Inv-loop μ-loop
-returns-3 c = 
+returns-3 c =
     let p = c .before .before .before .before .before .before .before .before in
     let a = p .before .args in
     let o = c .before .before in
@@ -97,7 +87,7 @@ loop-less : tie.Need-loop-less Inv-loop μ-loop
 loop-less c = c .before .before .before .before .before .before .before .before .before .before .before .due-below .ensures .some (c .before .before .before .before .before .before .before .before .before .if1 .left)
 
 loop-again : tie.Need-loop-again Inv-loop μ-loop
-loop-again c = 
+loop-again c =
     let p = c .before .before .before .before .before .before .before .before .before .before .before .before .before in
     let a = p .before .args in
     let o = c .before .before .before .before in
@@ -114,7 +104,7 @@ loop-less-2 : tie.Need-loop-less-2 Inv-loop μ-loop
 loop-less-2 c = c .before .before .before .before .before .before .before .before .due-below .ensures .some (c .before .before .before .before .before .before .if1 .left)
 
 loop-again-2 : tie.Need-loop-again-2 Inv-loop μ-loop
-loop-again-2 c = 
+loop-again-2 c =
     let p = c .before .before .before .before .before .before .before .before .before .before in
     let a = p .before .args in
     let due = c .before .before .before .before .before .before .before .before .due-below in (

@@ -1,28 +1,22 @@
 -- `planner::tighten::settled` meets its contract. The measure is the sum of the row: each pass that moves a job lowers it.
 -- Assumes nothing.
-use mathlib.Core.Logic.{_⊎_, inl, inr, ⊎-elim}
-use mathlib.Core.Path.{_≡_, refl, sym, ap, subst, _∙_}
-use Prim.Native.Nat.{ℕ, _+_, _-_, _≤_, _<_}
+use mathlib.Core.Path.{_≡_, sym, subst}
+use Prim.Native.Nat.{ℕ, _<_}
 use native.Mathlib.Omega.{arith}
 use borrow.Author.Needs.{needs}
 use lib.Dec.{T}
 use lib.ListN.{length, getD}
-use Rattle.schedule.specs.Count.{count}
-use Rattle.planner.specs.Sets.{has}
 use mathlib.Core.List.{List}
 use Rattle.schedule.specs.Jobs.{Jobs}
 use Rattle.schedule.proofs.Rows.{sum, sum-less}
 use Rattle.planner.specs.declared.tighten.Moved.{Moved}
-use Rattle.planner.specs.declared.tighten.Moved.the-variants.{Jobs as Those, Shut}
+use Rattle.planner.specs.declared.tighten.Moved.the-variants.{Jobs as Those}
 use Rattle.planner.specs.Told.{row-in}
 use Rattle.planner.specs.Inner.Tables.{Known}
 use Rattle.planner.specs.Inner.Lower.{Sunk, Moves, Swept}
 use Rattle.planner.proofs.TightenSink.{sunk-same, sunk-join, none-join}
 use Rattle.planner.proofs.tighten.settled.Statement.{statement}
 use Rattle.planner.proofs.tighten.settled.Tie as tie
-use Rattle.planner.proofs.tighten.settled.Reads as reads
-use Rattle.planner.proofs.tighten.settled.Lts as lts
-use Rattle.planner.proofs.tighten.pass.Reads as pass-reads
 
 abbrev Inv-loop : tie.InvT-loop
 Inv-loop size order followers early late next row₀ row = (length row ≡ 64) × ((i : ℕ) → i < size → getD row i 0 < 65536) × ((J : Jobs) → J .size ≡ size → Known J followers early late next → Sunk J (row-in early) row₀ row)
@@ -41,7 +35,7 @@ loop-holds : tie.Need-loop-holds Inv-loop μ-loop
 loop-holds c = (c .pre .1, c .pre .4, (λ J e k. sunk-same J (row-in (c .args .early .now)) (c .args .row .now)))
 
 pass-requires : tie.Need-pass-requires Inv-loop μ-loop
-pass-requires c κs = 
+pass-requires c κs =
     let p = c .before in
     (p .before .pre .0, p .loop .inv .0, p .before .pre .2, p .before .pre .3, p .loop .inv .1)
 
@@ -49,7 +43,7 @@ enum-known-moved : tie.Need-enum-known-moved Inv-loop μ-loop
 enum-known-moved c = search needs
 
 returns : tie.Need-returns Inv-loop μ-loop
-returns c = 
+returns c =
     let p = c .before .before .before .before .before .before in
     let a = p .before .args in
     let low = c .before .before .before .before .pass .last .1 .1 .1 .1 .1 .1 .0 in (
@@ -65,7 +59,7 @@ returns c =
     )
 
 loop-less : tie.Need-loop-less Inv-loop μ-loop
-loop-less c = 
+loop-less c =
     let p = c .before .before .before .before .before .before in
     let j = p .before .pre .5 in
     let m = moves (c .before) (j .0) (j .1) (j .2) in
@@ -73,7 +67,7 @@ loop-less c =
     sum-less (p .before .args .size) (row-in (c .before .before .before .before .pass .last .1 .1 .1 .1 .1 .1 .0)) (row-in (p .loop .row)) (f .0) (omega (arith, f .1, j .1)) (λ i l. m .0 .bound .beneath i (omega (arith, j .1))) (f .2)
 
 loop-again : tie.Need-loop-again Inv-loop μ-loop
-loop-again c = 
+loop-again c =
     let p = c .before .before .before .before .before .before in
     let a = p .before .args in
     let j = p .before .pre .5 in (
@@ -86,7 +80,7 @@ enum-told : tie.Need-enum-told Inv-loop μ-loop
 enum-told c = search needs
 
 returns-2 : tie.Need-returns-2 Inv-loop μ-loop
-returns-2 c = 
+returns-2 c =
     let p = c .before .before .before .before in
     let a = p .before .args in
     let low = c .before .before .pass .last .1 .1 .1 .1 .1 .1 .0 in (

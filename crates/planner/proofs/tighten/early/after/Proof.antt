@@ -1,22 +1,14 @@
 -- `planner::tighten::early::after` meets its contract.
 -- Assumes nothing.
-use mathlib.Core.Logic.{_⊎_, inl, inr, ⊎-elim}
-use mathlib.Core.Path.{_≡_, refl, sym, ap, subst, _∙_}
-use Prim.Native.Nat.{ℕ, _+_, _-_, _≤_, _<_}
+use mathlib.Core.Logic.{⊎-elim}
 use native.Mathlib.Omega.{arith}
 use borrow.Author.Needs.{needs}
-use lib.Dec.{T, ltb}
-use lib.ListN.{getD}
 use Rattle.schedule.specs.Count.{count}
 use Rattle.planner.specs.Sets.{has}
 use Rattle.planner.proofs.Bits.{walk-less}
 use Rattle.planner.proofs.TightenEarly.{Reached, reached-start, reached-same, reached-more, reached-after}
 use Rattle.planner.proofs.tighten.early.after.Statement.{statement}
 use Rattle.planner.proofs.tighten.early.after.Tie as tie
-use Rattle.planner.proofs.tighten.early.after.Reads as reads
-use Rattle.planner.proofs.tighten.early.after.Lts as lts
-use Rattle.planner.proofs.sets.first.Reads as first-reads
-use Rattle.planner.proofs.sets.without.Reads as without-reads
 
 abbrev Inv-loop : tie.InvT-loop
 Inv-loop start set early time₀ rest₀ time rest = Reached start set early time rest
@@ -43,7 +35,7 @@ element-copy-out-time : tie.Need-element-copy-out-time Inv-loop μ-loop
 element-copy-out-time c = search needs
 
 add-time : tie.Need-add-time Inv-loop μ-loop
-add-time c = 
+add-time c =
     let p = c .before .before .before .before .before in
     let f = c .before .before .before .first in
     omega (arith, p .before .pre (f .result .0) (p .loop .inv .within (f .result .0) (f .ensures .1)))
@@ -52,12 +44,12 @@ without-requires : tie.Need-without-requires Inv-loop μ-loop
 without-requires c κs = search needs
 
 loop-less : tie.Need-loop-less Inv-loop μ-loop
-loop-less c = 
+loop-less c =
     let f = c .before .before .before .first in
     walk-less (c .before .before .before .before .before .loop .rest) (c .without .result) (f .result .0) (c .without .ensures) (f .ensures .0) (f .ensures .1)
 
 loop-again : tie.Need-loop-again Inv-loop μ-loop
-loop-again c = 
+loop-again c =
     let p = c .before .before .before .before .before in
     let a = p .before .args in
     let f = c .before .before .before .first in

@@ -1,24 +1,10 @@
 -- `planner::tighten::early::earliest` meets its contract.
 -- Assumes nothing.
-use mathlib.Core.Logic.{_⊎_, inl, inr, ⊎-elim}
-use mathlib.Core.Path.{_≡_, refl, sym, ap, subst, _∙_}
-use Prim.Native.Nat.{ℕ, _+_, _-_, _≤_, _<_}
-use native.Mathlib.Omega.{arith}
+use Prim.Native.Nat.{_-_}
 use borrow.Author.Needs.{needs}
-use lib.Dec.{T, ltb}
-use lib.ListN.{getD}
-use Rattle.schedule.specs.Count.{count}
-use Rattle.planner.specs.Sets.{has}
 use Rattle.planner.proofs.TightenEarly.{Making, making-start, making-free, making-low, making-next, making-end}
 use Rattle.planner.proofs.tighten.early.earliest.Statement.{statement}
 use Rattle.planner.proofs.tighten.early.earliest.Tie as tie
-use Rattle.planner.proofs.tighten.early.earliest.Reads as reads
-use Rattle.planner.proofs.tighten.early.earliest.Lts as lts
-use Rattle.planner.proofs.sets.below.Reads as below-reads
-use Rattle.planner.proofs.sets.without.Reads as without-reads
-use Rattle.planner.proofs.tighten.early.after.Reads as after-reads
-use Rattle.planner.proofs.tighten.early.free.Reads as free-reads
-use Rattle.planner.proofs.tighten.wide.Reads as wide-reads
 
 abbrev Inv-loop : tie.InvT-loop
 Inv-loop size start before early₀ order₀ todo₀ k₀ early order todo k = Making size start before early order todo k
@@ -33,7 +19,7 @@ loop-holds : tie.Need-loop-holds Inv-loop μ-loop
 loop-holds c = making-start _ _ _ (c .before .pre .0) _ _ _ (c .before .pre .1) (c .before .pre .2) (c .before .pre .3) (c .below .ensures)
 
 free-requires : tie.Need-free-requires Inv-loop μ-loop
-free-requires c κs = 
+free-requires c κs =
     let p = c .before in
     let a = p .before .before .args in
     making-free (a .size) (a .start .now) (a .before .now) (p .before .before .pre .0) (p .loop .early) (p .loop .order) (p .loop .todo) (p .loop .k) (p .loop .inv) (search needs)
@@ -54,7 +40,7 @@ element-copy-out-after : tie.Need-element-copy-out-after Inv-loop μ-loop
 element-copy-out-after c = search needs
 
 after-requires : tie.Need-after-requires Inv-loop μ-loop
-after-requires c κs = 
+after-requires c κs =
     let p = c .before .before .before .before .before .before in
     let a = p .before .before .args in
     let f = c .before .before .before .before .free in
@@ -82,7 +68,7 @@ loop-less : tie.Need-loop-less Inv-loop μ-loop
 loop-less c = search needs
 
 loop-again : tie.Need-loop-again Inv-loop μ-loop
-loop-again c = 
+loop-again c =
     let p = c .before .before .before .before .before .before .before .before in
     let a = p .before .before .args in
     let f = c .before .before .before .before .before .before .free in
@@ -90,7 +76,7 @@ loop-again c =
     making-next (a .size) (a .start .now) (a .before .now) (p .before .before .pre .0) (p .loop .early) (p .loop .order) (p .loop .todo) (p .loop .k) (p .loop .inv) (f .result .0) (f .ensures .1) (search needs) (c .before .after .result) (c .without .result) (rw w at (c .before .after .ensures)) (c .without .ensures)
 
 returns : tie.Need-returns Inv-loop μ-loop
-returns c = 
+returns c =
     let p = c .before in
     let a = p .before .before .args in
     making-end (a .size) (a .start .now) (a .before .now) (p .before .before .pre .0) (p .loop .early) (p .loop .order) (p .loop .todo) (p .loop .k) (p .loop .inv) (search needs)

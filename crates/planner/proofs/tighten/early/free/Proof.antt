@@ -1,21 +1,14 @@
 -- `planner::tighten::early::free` meets its contract: some free job is not passed yet.
 -- Assumes nothing.
-use mathlib.Core.Logic.{_⊎_, inl, inr, ⊎-elim}
-use mathlib.Core.Path.{_≡_, refl, sym, ap, subst, _∙_}
-use Prim.Native.Nat.{ℕ, _+_, _-_, _≤_, _<_}
+use mathlib.Core.Path.{_≡_, sym, subst}
+use Prim.Native.Nat.{ℕ, _-_, _≤_, _<_}
 use native.Mathlib.Omega.{arith}
 use borrow.Author.Needs.{needs}
-use lib.Dec.{T, ltb}
 use lib.ListN.{getD}
-use Rattle.schedule.specs.Count.{count}
-use Rattle.planner.specs.Sets.{has}
 use Rattle.schedule.proofs.Tests.{lt-by}
 use Rattle.planner.specs.Inner.Early.{Free}
 use Rattle.planner.proofs.tighten.early.free.Statement.{statement}
 use Rattle.planner.proofs.tighten.early.free.Tie as tie
-use Rattle.planner.proofs.tighten.early.free.Reads as reads
-use Rattle.planner.proofs.tighten.early.free.Lts as lts
-use Rattle.planner.proofs.tighten.early.waits.Reads as waits-reads
 
 abbrev Inv-loop : tie.InvT-loop
 Inv-loop before todo i₀ i = (f : ℕ) × (i ≤ f) × (f < 64) × Free f (getD before f 0) todo
@@ -42,7 +35,7 @@ loop-less : tie.Need-loop-less Inv-loop μ-loop
 loop-less c = search needs
 
 loop-again : tie.Need-loop-again Inv-loop μ-loop
-loop-again c = 
+loop-again c =
     let p = c .before .before .before in
     let f = p .loop .inv in
     let a = p .before .args in

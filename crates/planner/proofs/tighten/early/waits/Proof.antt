@@ -1,28 +1,19 @@
 -- `planner::tighten::early::waits` meets its contract.
 -- Assumes nothing.
-use mathlib.Core.Logic.{_⊎_, inl, inr, ⊎-elim}
-use mathlib.Core.Path.{_≡_, refl, sym, ap, subst, _∙_}
-use Prim.Native.Nat.{ℕ, _+_, _-_, _≤_, _<_}
-use native.Mathlib.Omega.{arith}
+use mathlib.Core.Path.{sym, subst, _∙_}
 use borrow.Author.Needs.{needs}
-use lib.Dec.{T, ltb}
-use lib.ListN.{getD}
-use Rattle.schedule.specs.Count.{count}
+use lib.Dec.{T}
 use Rattle.planner.specs.Sets.{has}
 use borrow.Author.Tests.{eqb-true, eqb-false, not-true, not-false}
-use Rattle.planner.specs.Inner.Early.{Free}
 use Rattle.planner.proofs.Bits.{apart-is, apart-has}
 use Rattle.planner.proofs.tighten.early.waits.Statement.{statement}
 use Rattle.planner.proofs.tighten.early.waits.Tie as tie
-use Rattle.planner.proofs.tighten.early.waits.Reads as reads
-use Rattle.planner.proofs.tighten.early.waits.Lts as lts
-use Rattle.planner.proofs.sets.has.Reads as has-reads
 
 has-requires : tie.Need-has-requires
 has-requires c κs = search needs
 
 returns : tie.Need-returns
-returns c = 
+returns c =
     let a = c .before .before .args in
     let r = c .before .before .fits in (
       (λ e f. eqb-false _ 0 (not-true _ e) (apart-is (a .before) (a .todo) (r .before .fits) (r .todo .fits) (f .ready))),

@@ -1,12 +1,11 @@
 -- `planner::tighten::follow::capped` meets its contract.
 -- Assumes nothing.
-use mathlib.Core.Logic.{_⊎_, inl, inr, ⊎-elim}
-use mathlib.Core.Path.{_≡_, refl, sym, ap, subst, _∙_}
-use Prim.Native.Nat.{ℕ, _+_, _-_, _≤_, _<_}
+use mathlib.Core.Logic.{⊎-elim}
+use mathlib.Core.Path.{_≡_, sym, subst}
+use Prim.Native.Nat.{ℕ, _-_, _<_}
 use native.Mathlib.Omega.{arith}
 use borrow.Author.Needs.{needs}
-use lib.Dec.{T, ltb}
-use lib.ListN.{getD}
+use lib.Dec.{T}
 use Rattle.schedule.specs.Count.{count}
 use Rattle.planner.specs.Sets.{has}
 use Rattle.schedule.specs.Jobs.{Jobs}
@@ -17,10 +16,6 @@ use Rattle.planner.proofs.Bits.{walk-less, walk-sub}
 use Rattle.planner.proofs.TightenLower.{eased-same, eased-follow}
 use Rattle.planner.proofs.tighten.follow.capped.Statement.{statement}
 use Rattle.planner.proofs.tighten.follow.capped.Tie as tie
-use Rattle.planner.proofs.tighten.follow.capped.Reads as reads
-use Rattle.planner.proofs.tighten.follow.capped.Lts as lts
-use Rattle.planner.proofs.sets.first.Reads as first-reads
-use Rattle.planner.proofs.sets.without.Reads as without-reads
 
 abbrev Inv-loop : tie.InvT-loop
 Inv-loop held set row time₀ rest₀ time rest = ((a : ℕ) → T (has rest a) → T (has set a)) × ((J : Jobs) (early : ℕ → ℕ) (i : ℕ) → i < J .size → row-in row i ≡ held → ((j : ℕ) → T (has set j) → (j < J .size) × T (J .before i j)) → Raised J early → Eased J early (row-in row) i time)
@@ -56,12 +51,12 @@ without-requires : tie.Need-without-requires Inv-loop μ-loop
 without-requires c κs = search needs
 
 loop-less : tie.Need-loop-less Inv-loop μ-loop
-loop-less c = 
+loop-less c =
     let k = c .before .before .before .first in
     walk-less (c .before .before .before .before .before .loop .rest) (c .without .result) (k .result .0) (c .without .ensures) (k .ensures .0) (k .ensures .1)
 
 loop-again : tie.Need-loop-again Inv-loop μ-loop
-loop-again c = 
+loop-again c =
     let p = c .before .before .before .before .before in
     let k = c .before .before .before .first in
     let row = row-in (p .before .args .row .now) in (

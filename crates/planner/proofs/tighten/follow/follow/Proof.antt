@@ -1,26 +1,19 @@
 -- `planner::tighten::follow::follow` meets its contract.
 -- Assumes nothing.
-use mathlib.Core.Logic.{_⊎_, inl, inr, ⊎-elim}
-use mathlib.Core.Path.{_≡_, refl, sym, ap, subst, _∙_}
-use Prim.Native.Nat.{ℕ, _+_, _-_, _≤_, _<_}
+use mathlib.Core.Path.{_≡_, refl, sym, subst}
+use Prim.Native.Nat.{ℕ, _-_, _≤_, _<_}
 use native.Mathlib.Omega.{arith}
 use borrow.Author.Needs.{needs}
-use lib.Dec.{T, ltb}
+use lib.Dec.{T}
 use lib.ListN.{length, length-set, getD, set}
-use Rattle.schedule.specs.Count.{count}
-use Rattle.planner.specs.Sets.{has}
 use Rattle.schedule.specs.Jobs.{Jobs}
 use Rattle.schedule.specs.Times.{Raised}
 use Rattle.planner.specs.Told.{row-in}
 use Rattle.planner.specs.Inner.Tables.{Follows}
-use Rattle.planner.specs.Inner.Lower.{Eased, Sunk, Fits}
+use Rattle.planner.specs.Inner.Lower.{Eased, Sunk}
 use Rattle.planner.proofs.TightenSink.{sunk-same, sunk-put, sunk-none, followed}
 use Rattle.planner.proofs.tighten.follow.follow.Statement.{statement}
 use Rattle.planner.proofs.tighten.follow.follow.Tie as tie
-use Rattle.planner.proofs.tighten.follow.follow.Reads as reads
-use Rattle.planner.proofs.tighten.follow.follow.Lts as lts
-use Rattle.planner.proofs.sets.with.Reads as with-reads
-use Rattle.planner.proofs.tighten.follow.capped.Reads as capped-reads
 
 abbrev Inv-loop : tie.InvT-loop
 Inv-loop size changed order followers row₀ moved₀ k₀ row moved k = (k ≤ size) × (length row ≡ 64) × ((J : Jobs) (early : ℕ → ℕ) → J .size ≡ size → Follows J followers → Raised J early → Sunk J early row₀ row)
@@ -87,7 +80,7 @@ element-write-row : tie.Need-element-write-row Inv-loop μ-loop
 element-write-row c = omega (arith, in-row (c .before .before .before .before .before))
 
 returns : tie.Need-returns Inv-loop μ-loop
-returns c = 
+returns c =
     let p = c .before .before .before .before .before .before .before in
     let a = p .before .args in
     let i = getD (a .order .now) (p .loop .k - 1) 0 in (
@@ -116,7 +109,7 @@ loop-again-2 : tie.Need-loop-again-2 Inv-loop μ-loop
 loop-again-2 c = kept (c .before .before)
 
 returns-2 : tie.Need-returns-2 Inv-loop μ-loop
-returns-2 c = 
+returns-2 c =
     let p = c .before in
     (p .loop .inv .1, (λ J early e f r. record { sunk = λ b. p .loop .inv .2 J early e f r; none = λ b. absurd (subst T b tt) }))
 

@@ -1,22 +1,12 @@
 -- `planner::tighten::rule::lowered` meets its contract.
 -- Assumes nothing.
-use mathlib.Core.Logic.{_⊎_, inl, inr, ⊎-elim}
-use mathlib.Core.Path.{_≡_, refl, sym, ap, subst, _∙_}
-use Prim.Native.Nat.{ℕ, _+_, _-_, _*_, _/_, _≤_, _<_}
+use mathlib.Core.Path.{sym}
 use native.Mathlib.Omega.{arith}
 use borrow.Author.Needs.{needs}
-use lib.Dec.{T, ltb}
-use lib.ListN.{getD}
-use Rattle.schedule.specs.Count.{count}
-use Rattle.planner.specs.Sets.{has}
 use Rattle.planner.specs.Told.{row-in}
-use Rattle.planner.specs.Inner.Lower.{Ruled}
 use Rattle.planner.proofs.TightenLower.{ruled-shut, ruled-still, ruled-full, ruled-lower}
 use Rattle.planner.proofs.tighten.rule.lowered.Statement.{statement}
 use Rattle.planner.proofs.tighten.rule.lowered.Tie as tie
-use Rattle.planner.proofs.tighten.rule.lowered.Reads as reads
-use Rattle.planner.proofs.tighten.rule.lowered.Lts as lts
-use Rattle.planner.proofs.tighten.rule.pressure.Reads as pressure-reads
 
 mul-if1 : tie.Need-mul-if1
 mul-if1 c = search needs
@@ -25,7 +15,7 @@ element-copy-out-if1 : tie.Need-element-copy-out-if1
 element-copy-out-if1 c = search needs
 
 returns : tie.Need-returns
-returns c = 
+returns c =
     let a = c .before .before .args in
     let E = row-in (a .early .now) in
     (search needs, (λ J row x e. ruled-shut J E row (a .job .0) (x .job) e (a .d) (omega (arith, x .holds))))
@@ -40,7 +30,7 @@ add-if2 : tie.Need-add-if2
 add-if2 c = search needs
 
 returns-2 : tie.Need-returns-2
-returns-2 c = 
+returns-2 c =
     let a = c .before .before .before .before .args in
     let E = row-in (a .early .now) in
     (search needs, (λ J row x e. rw (sym (x .holds)) (ruled-still J E row (a .job .0) (x .job) e (a .d) (c .before .pressure .result) (omega (arith, x .holds)) (omega (arith, x .holds)) (c .before .pressure .ensures .1 J row x) (omega (arith, x .holds)))))
@@ -55,7 +45,7 @@ add-if3 : tie.Need-add-if3
 add-if3 c = search needs
 
 returns-3 : tie.Need-returns-3
-returns-3 c = 
+returns-3 c =
     let a = c .before .before .before .before .before .before .args in
     let E = row-in (a .early .now) in
     (search needs, (λ J row x e. ruled-full J E row (a .job .0) (x .job) e (a .d) (c .before .before .before .pressure .result) (omega (arith, x .holds)) (omega (arith, x .holds)) (c .before .before .before .pressure .ensures .1 J row x) (omega (arith, x .holds)) (c .if3 .taken)))
@@ -64,7 +54,7 @@ sub-result : tie.Need-sub-result
 sub-result c = search needs
 
 returns-4 : tie.Need-returns-4
-returns-4 c = 
+returns-4 c =
     let a = c .before .before .before .before .before .before .args in
     let E = row-in (a .early .now) in
     (search needs, (λ J row x e. ruled-lower J E row (a .job .0) (x .job) e (a .d) (c .before .before .before .pressure .result) (omega (arith, x .holds)) (omega (arith, x .holds)) (c .before .before .before .pressure .ensures .1 J row x) (omega (arith, x .holds)) (c .if3 .left)))

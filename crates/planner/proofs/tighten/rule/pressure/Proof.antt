@@ -1,24 +1,17 @@
 -- `planner::tighten::rule::pressure` meets its contract.
 -- Assumes nothing.
-use mathlib.Core.Logic.{_⊎_, inl, inr, ⊎-elim}
-use mathlib.Core.Path.{_≡_, refl, sym, ap, subst, _∙_}
-use Prim.Native.Nat.{ℕ, _+_, _-_, _*_, _≤_, _<_}
+use mathlib.Core.Logic.{⊎-elim}
+use Prim.Native.Nat.{ℕ, _-_, _<_}
 use native.Mathlib.Omega.{arith}
 use borrow.Author.Needs.{needs}
-use lib.Dec.{T, ltb}
 use lib.ListN.{getD}
-use Rattle.schedule.specs.Count.{count}
-use Rattle.planner.specs.Sets.{has}
 use Rattle.schedule.specs.Jobs.{Jobs}
 use Rattle.schedule.proofs.Counting.{count-bound}
 use Rattle.planner.specs.Sets.{pressed}
-use Rattle.planner.specs.Inner.Lower.{At, Pressure}
+use Rattle.planner.specs.Inner.Lower.{At}
 use Rattle.planner.proofs.TightenPress.{Passed, passed-start, passed-kept, passed-counted, passed-found, passed-none, passed-own, passed-over}
 use Rattle.planner.proofs.tighten.rule.pressure.Statement.{statement}
 use Rattle.planner.proofs.tighten.rule.pressure.Tie as tie
-use Rattle.planner.proofs.tighten.rule.pressure.Reads as reads
-use Rattle.planner.proofs.tighten.rule.pressure.Lts as lts
-use Rattle.planner.proofs.sets.pressing.Reads as pressing-reads
 
 abbrev Inv-loop : tie.InvT-loop
 Inv-loop job held d due followers early late next least most₀ k₀ most k = (k < 65) × ((J : Jobs) (row : ℕ → ℕ) (x : At J row (job .0) held d due followers early late next) → Passed J row (job .0) held d due followers early late next x k most)
@@ -33,7 +26,7 @@ mul-least : tie.Need-mul-least Inv-loop μ-loop
 mul-least c = search needs
 
 loop-holds : tie.Need-loop-holds Inv-loop μ-loop
-loop-holds c = 
+loop-holds c =
     let a = c .args in
     (omega arith, (λ J row x. passed-start J row (a .job .0) (a .held) (a .d) (a .due) (a .followers) (a .early .now) (a .late .now) (a .next .now) x (c .pre .2) (c .pre .3) (c .pre .4)))
 
@@ -65,14 +58,14 @@ pressing-requires : tie.Need-pressing-requires Inv-loop μ-loop
 pressing-requires c κs = search needs
 
 returns : tie.Need-returns Inv-loop μ-loop
-returns c = 
+returns c =
     let p = c .before .before .before .before .before .before .before in
     let a = p .before .args in
     let s = p .before .pre in
     (omega (arith, c .before .pressing .ensures, count-bound 64 (pressed (a .due) (a .followers) (getD (a .late .now) (p .loop .k) 0) (a .job .0))), (λ J row x. passed-found J row (a .job .0) (a .held) (a .d) (a .due) (a .followers) (a .early .now) (a .late .now) (a .next .now) x (s .2) (s .3) (s .4) (p .loop .k) (p .loop .most) (p .loop .inv .1 J row x) (c .before .before .before .before .before .if1 .taken) (c .before .pressing .result) (c .before .pressing .ensures) (c .if3 .taken)))
 
 returns-2 : tie.Need-returns-2 Inv-loop μ-loop
-returns-2 c = 
+returns-2 c =
     let p = c .before .before .before .before .before .before .before .before in
     let a = p .before .args in
     let s = p .before .pre in
@@ -85,7 +78,7 @@ element-copy-out-k : tie.Need-element-copy-out-k Inv-loop μ-loop
 element-copy-out-k c = search needs
 
 loop-less : tie.Need-loop-less Inv-loop μ-loop
-loop-less c = 
+loop-less c =
     let p = c .before .before .before .before .before in
     let s = p .before .pre .0 in
     let k = p .loop .k in
@@ -93,14 +86,16 @@ loop-less c =
     omega (arith, h .2 (omega arith), s (getD (p .before .args .next .now) k 0) (h .1) .0)
 
 loop-again : tie.Need-loop-again Inv-loop μ-loop
-loop-again c = 
+loop-again c =
     let p = c .before .before .before .before .before in
     let a = p .before .args in
-    let s = p .before .pre in
-    (s .0 (p .loop .k) (p .loop .inv .0) .1, (λ J row x. ⊎-elim
-        (λ w. rw (w .5) (passed-counted J row (a .job .0) (a .held) (a .d) (a .due) (a .followers) (a .early .now) (a .late .now) (a .next .now) x (s .2) (s .3) (s .4) (p .loop .k) (p .loop .most) (p .loop .inv .1 J row x) (c .before .before .before .if1 .taken) (w .2 .result) (w .2 .ensures) (w .3 .left)))
-        (λ w. rw (w .1) (passed-kept J row (a .job .0) (a .held) (a .d) (a .due) (a .followers) (a .early .now) (a .late .now) (a .next .now) x (s .2) (s .3) (s .4) (p .loop .k) (p .loop .most) (p .loop .inv .1 J row x) (c .before .before .before .if1 .taken) (w .0 .left)))
-        (c .before .if2 .came)))
+    let s = p .before .pre in (
+      s .0 (p .loop .k) (p .loop .inv .0) .1,
+      (λ J row x. ⊎-elim
+          (λ w. rw (w .5) (passed-counted J row (a .job .0) (a .held) (a .d) (a .due) (a .followers) (a .early .now) (a .late .now) (a .next .now) x (s .2) (s .3) (s .4) (p .loop .k) (p .loop .most) (p .loop .inv .1 J row x) (c .before .before .before .if1 .taken) (w .2 .result) (w .2 .ensures) (w .3 .left)))
+          (λ w. rw (w .1) (passed-kept J row (a .job .0) (a .held) (a .d) (a .due) (a .followers) (a .early .now) (a .late .now) (a .next .now) x (s .2) (s .3) (s .4) (p .loop .k) (p .loop .most) (p .loop .inv .1 J row x) (c .before .before .before .if1 .taken) (w .0 .left)))
+          (c .before .if2 .came)),
+    )
 
 mul-pressing-2 : tie.Need-mul-pressing-2 Inv-loop μ-loop
 mul-pressing-2 c = search needs
@@ -112,14 +107,14 @@ pressing-requires-2 : tie.Need-pressing-requires-2 Inv-loop μ-loop
 pressing-requires-2 c κs = search needs
 
 returns-3 : tie.Need-returns-3 Inv-loop μ-loop
-returns-3 c = 
+returns-3 c =
     let p = c .before .before .before .before .before in
     let a = p .before .args in
     let s = p .before .pre in
     (omega (arith, c .before .pressing2 .ensures, count-bound 64 (pressed (a .due) (a .followers) (getD (a .late .now) (p .loop .k) 0) (a .job .0))), (λ J row x. passed-own J row (a .job .0) (a .held) (a .d) (a .due) (a .followers) (a .early .now) (a .late .now) (a .next .now) x (s .2) (s .3) (s .4) (p .loop .k) (p .loop .most) (p .loop .inv .1 J row x) (c .before .before .before .if1 .left) (c .before .pressing2 .result) (c .before .pressing2 .ensures) (c .if5 .taken)))
 
 returns-4 : tie.Need-returns-4 Inv-loop μ-loop
-returns-4 c = 
+returns-4 c =
     let p = c .before .before .before .before .before in
     let a = p .before .args in
     let s = p .before .pre in
