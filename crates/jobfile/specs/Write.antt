@@ -24,25 +24,21 @@ unfoldable pub spelled : List Request → List ℕ
 spelled [] = []
 spelled (q ∷ rest) = spell q ++ spelled rest
 
--- each job with its latest time (01, Job file: "`JB` for each job with its latest time")
-unfoldable pub jobs-asked : ℕ → List ℕ → List ℕ → List Request
-unfolding gather
-jobs-asked size start latest = gather size (λ i. Job (getD start i 0) (getD latest i 0) ∷ [])
+-- job i with its latest time (01, Job file: "`JB` for each job with its latest time")
+abbrev pub job-asked : List ℕ → List ℕ → ℕ → List Request
+job-asked start latest i = Job (getD start i 0) (getD latest i 0) ∷ []
 
--- each job b that job a precedes
-unfoldable pub followers-asked : ℕ → List ℕ → ℕ → List Request
-unfolding gather
-followers-asked size before a = gather size (λ b. cond (has (getD before b 0) a) (Before (record { 0 = a }) (record { 0 = b }) ∷ []) [])
+-- job a before job b, where it precedes b
+abbrev pub order-asked : List ℕ → ℕ → ℕ → List Request
+order-asked before a b = cond (has (getD before b 0) a) (Before (record { 0 = a }) (record { 0 = b }) ∷ []) []
 
--- each pair (01, Job file: "then `OR` for every pair where a precedes b, by a, then b")
-unfoldable pub orders-asked : ℕ → List ℕ → List Request
-unfolding gather followers-asked
-orders-asked size before = gather size (followers-asked size before)
+abbrev pub followers-asked : ℕ → List ℕ → ℕ → List Request
+followers-asked size before a = gather size (order-asked before a)
 
--- a book as requests
+-- a book as requests (01, Job file: "then `OR` for every pair where a precedes b, by a, then b")
 unfoldable pub asks-of : Book → List Request
-unfolding jobs-asked orders-asked
-asks-of k = jobs-asked (k .size) (k .start) (k .latest) ++ orders-asked (k .size) (k .before)
+unfolding gather
+asks-of k = gather (k .size) (job-asked (k .start) (k .latest)) ++ gather (k .size) (followers-asked (k .size) (k .before))
 
 -- a book as a job file
 unfoldable pub file-of : Book → List ℕ

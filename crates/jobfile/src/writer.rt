@@ -5,10 +5,11 @@ use schedule::JobIndex;
 use crate::record;
 ghost use mathlib.Core.Path.{_≡_};
 ghost use Prim.Native.Nat.{_+_, _*_, _≤_, _<_};
+ghost use lib.Count.{ones};
 ghost use lib.ListN.{length};
 ghost use lib.Seq.{sets};
 ghost use Rattle.planner.specs.Told.{Made};
-ghost use Rattle.jobfile.specs.Write.{spelled, jobs-asked, followers-asked, orders-asked, WritesBook};
+ghost use Rattle.jobfile.specs.Write.{gather, spelled, job-asked, followers-asked, WritesBook};
 ghost use Rattle.jobfile.specs.Inner.Write.{pairs-in, Continues};
 
 // `JB` for each job, then `OR` for every pair where one precedes the other; nothing where the bytes are too few.
@@ -33,14 +34,20 @@ fn pairs(size: usize, before: &[u64; 64]) -> usize
 {
     let mut sum: usize = 0;
     for b in 0..size {
-        sum += u64::count_ones(before[b]) as usize;
+        sum += members(before[b]);
     }
     sum
 }
 
+fn members(set: u64) -> usize
+    ensures { λ r. ⌜ (r ≡ ones set) × (r ≤ 64) ⌝ }
+{
+    u64::count_ones(set) as usize
+}
+
 fn put_jobs<'a>(size: usize, start: &'a [u16; 64], latest: &'a [u16; 64], out: &mut [u8])
     requires { ⌜ (size ≤ 64) × (6 * size ≤ length (now out)) ⌝ }
-    ensures { λ _. ⌜ now (out .exit) ≡ sets (now (out .entry)) 0 (spelled (jobs-asked size (now (start .entry)) (now (latest .entry)))) ⌝ }
+    ensures { λ _. ⌜ now (out .exit) ≡ sets (now (out .entry)) 0 (spelled (gather size (job-asked (now (start .entry)) (now (latest .entry))))) ⌝ }
 {
     for i in 0..size {
         record::put_record(out, 6 * i, record::JB, start[i], latest[i]);
@@ -48,8 +55,8 @@ fn put_jobs<'a>(size: usize, start: &'a [u16; 64], latest: &'a [u16; 64], out: &
 }
 
 fn put_orders(size: usize, before: &[u64; 64], out: &mut [u8], at: usize)
-    requires { ⌜ (size ≤ 64) × (at + length (spelled (orders-asked size (now before))) ≤ length (now out)) ⌝ }
-    ensures { λ _. ⌜ now (out .exit) ≡ sets (now (out .entry)) at (spelled (orders-asked size (now (before .entry)))) ⌝ }
+    requires { ⌜ (size ≤ 64) × (at + length (spelled (gather size (followers-asked size (now before)))) ≤ length (now out)) ⌝ }
+    ensures { λ _. ⌜ now (out .exit) ≡ sets (now (out .entry)) at (spelled (gather size (followers-asked size (now (before .entry))))) ⌝ }
 {
     let mut next = at;
     for a in 0..size {
