@@ -2,3 +2,5 @@ pub mod Stored
 pub mod Asked
 pub mod Reading
 pub mod Spelled
+pub mod Length
+pub mod Writing
