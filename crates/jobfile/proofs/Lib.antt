@@ -4,3 +4,4 @@ pub mod Reading
 pub mod Spelled
 pub mod Length
 pub mod Writing
+pub mod Whole
