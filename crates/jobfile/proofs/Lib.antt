@@ -5,3 +5,5 @@ pub mod Spelled
 pub mod Length
 pub mod Writing
 pub mod Whole
+pub mod Part
+pub mod Retold
