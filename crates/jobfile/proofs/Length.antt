@@ -4,23 +4,25 @@ use mathlib.Core.Bool.{Bool, true, false, cond}
 use mathlib.Core.List.{List, [], _∷_}
 use mathlib.Core.Path.{_≡_, refl, sym, ap, ap₂, _∙_}
 use Prim.Native.Nat.{ℕ, zero, suc, _+_, _*_, _^_, _≤_, _<_}
-use native.Mathlib.Nat.{pow-suc, le-antisymm, le-of-eq}
+use native.Mathlib.Nat.{pow-suc, le-antisymm, le-of-eq, lt-of-lt-of-le}
 use native.Mathlib.Omega.{arith}
 use lib.Count.{ones}
 use lib.Dec.{T}
 use lib.ListN.{length, getD, length-append}
 use lib.Pow.{pow-mono}
 use Rattle.schedule.specs.Count.{one, count}
-use Rattle.schedule.proofs.Counting.{count-inject, count-longer, count-bound}
+use Rattle.schedule.specs.Listed.{Listed}
+use Rattle.schedule.proofs.Counting.{count-inject, count-longer, count-lt, count-bound}
 use Rattle.schedule.proofs.Rows.{sum, sum-mono}
 use Rattle.planner.specs.declared.book.Book.{Book}
 use Rattle.planner.specs.declared.book.Request.{Request}
 use Rattle.planner.specs.Sets.{has}
-use Rattle.planner.specs.Told.{Shaped}
+use Rattle.planner.specs.Told.{Told}
 use Rattle.planner.proofs.Bits.{ones-count}
 use Rattle.jobfile.specs.Write.{gather, job-asked, order-asked, followers-asked, asks-of, file-of}
 use Rattle.jobfile.specs.Inner.Write.{pairs-in}
 use Rattle.jobfile.proofs.Spelled.{spelled-length}
+use Rattle.jobfile.proofs.Part.{loopless}
 
 -- ---- sums
 sum-same : (n : ℕ) (f g : ℕ → ℕ) → ((i : ℕ) → i < n → f i ≡ g i) → sum n f ≡ sum n g
@@ -41,7 +43,7 @@ unfolding sum
 sum-add zero f g = refl
 sum-add (suc n) f g = omega (arith, sum-add n f g)
 
-sum-bound : (n : ℕ) (f : ℕ → ℕ) → ((i : ℕ) → i < n → f i ≤ 64) → sum n f ≤ 64 * n
+sum-bound : (n : ℕ) (f : ℕ → ℕ) → ((i : ℕ) → i < n → f i ≤ 63) → sum n f ≤ 63 * n
 unfolding sum
 sum-bound zero f h = omega arith
 sum-bound (suc n) f h = omega (arith, h n (omega arith), sum-bound n f (λ i l. h i (omega arith)))
@@ -80,13 +82,16 @@ module _ (k : Book) where
   pub jobs-length : length (gather (k .size) (job-asked (k .start) (k .latest))) ≡ k .size
   jobs-length = gather-length (k .size) (job-asked (k .start) (k .latest)) ∙ sum-one (k .size)
 
-  module _ (shaped : Shaped k) where
+  module _ (L : Listed) (t : Told k L) where
     members : (b : ℕ) → ones (getD (k .before) b 0) ≡ count (k .size) (has (getD (k .before) b 0))
-    members b = ones-held (k .size) (getD (k .before) b 0) (λ j t. shaped .before-rest j b t .0)
+    members b = ones-held (k .size) (getD (k .before) b 0) (λ j x. t .shaped .before-rest j b x .0)
 
-    pub pairs-few : pairs-in (k .size) (k .before) ≤ 4096
-    pairs-few = omega (arith, shaped .few, sum-bound (k .size) (λ b. ones (getD (k .before) b 0))
-        (λ b l. omega (arith, shaped .few, members b, count-bound (k .size) (has (getD (k .before) b 0)))))
+    -- no job precedes itself
+    row-few : (b : ℕ) → b < k .size → count (k .size) (has (getD (k .before) b 0)) < k .size
+    row-few b l = lt-of-lt-of-le (count-lt (k .size) (has (getD (k .before) b 0)) (λ i. true) b l (λ i h x. tt) tt (λ x. loopless k L t b b x x)) (count-bound (k .size) (λ i. true))
+
+    pub pairs-few : pairs-in (k .size) (k .before) ≤ 63 * k .size
+    pairs-few = sum-bound (k .size) (λ b. ones (getD (k .before) b 0)) (λ b l. omega (arith, t .shaped .few, members b, row-few b l))
 
     orders-length : length (gather (k .size) (followers-asked (k .size) (k .before))) ≡ pairs-in (k .size) (k .before)
     orders-length =
@@ -104,3 +109,7 @@ module _ (k : Book) where
     pub file-length : length (file-of k) ≡ 6 * (k .size + pairs-in (k .size) (k .before))
     unfolding file-of
     file-length = spelled-length (asks-of k) ∙ ap (λ (n : ℕ). 6 * n) asks-length
+
+    -- a written book is never too long to read (01, Numbers and limits: "at most 24,576 bytes")
+    pub file-short : length (file-of k) ≤ 24576
+    file-short = omega (arith, file-length, pairs-few, t .shaped .few)

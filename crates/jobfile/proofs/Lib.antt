@@ -7,3 +7,4 @@ pub mod Writing
 pub mod Whole
 pub mod Part
 pub mod Retold
+pub mod RoundTrip

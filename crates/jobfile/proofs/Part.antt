@@ -59,7 +59,7 @@ snoc-agrees l v row h e i lt =
     rw (getD-put l v 0 i n) (put-all (λ (x y : ℕ). x < suc (length l) → y ≡ row x) (λ j. getD l j 0) (length l) v i (λ z. e) (λ f z. h i (omega arith)) n)
 
 -- ---- a check that finds no fault
-through : {A : Type 0} (fault : Type 0) (refusal : A) (next : A → Type 0) (r : A) → (fault → ⊥) → Unless fault refusal next r → next r
+pub through : {A : Type 0} (fault : Type 0) (refusal : A) (next : A → Type 0) (r : A) → (fault → ⊥) → Unless fault refusal next r → next r
 through fault refusal next r f (refused x e) = absurd (f x)
 through fault refusal next r f (passed x y) = y
 
@@ -71,6 +71,17 @@ module _ (k : Book) (L : Listed) (t : Told k L) where
   loopless a b x y =
       let h = t .shaped .before-rest a b x in
       reads-loopless L (jobs-of k) (t .holds .reads) (t .holds .loopless) .never a (h .0) (closed .joins a b a (h .0) (h .1) (h .0) x y)
+
+  -- ---- the book's own limits
+  module _ (i : ℕ) (l : i < k .size) where
+    pub start-low : jobs-of k .start i ≤ 4095
+    start-low = omega (arith, t .holds .reads .start i l, t .limited .start i (omega (arith, t .holds .reads .size)))
+
+    pub latest-high : latest-of k i ≤ 4096
+    latest-high = omega (arith, t .holds .latest .beneath i l, t .limited .deadline i (omega (arith, t .holds .reads .size)))
+
+    window : jobs-of k .start i < latest-of k i
+    window = omega (arith, t .holds .earliest .raised .above i l, t .holds .latest .consistent .window i l)
 
   module _ (M : Listed) (p : Part k M) where
     part-formed : Formed M
@@ -132,10 +143,9 @@ module _ (k : Book) (L : Listed) (t : Told k L) where
   pub next-accepted : (M : Listed) (q : Request) (b : Book) (r : Applied) → Part k M → Next k M q → Outcome M b q r → (value : ℕ) × Grown (grow M q) value r
   next-accepted M (Job s d) b r p (room, es, ed) x =
       let i = length (M .starts) in
-      let low : s ≤ 4095 = omega (arith, es, t .holds .reads .start i room, t .limited .start i (omega (arith, t .holds .reads .size))) in
-      let under = t .holds .latest .beneath i room in
-      let high : d ≤ 4096 = omega (arith, ed, t .limited .deadline i (omega (arith, t .holds .reads .size))) in
-      let above : s < d = omega (arith, es, ed, t .holds .earliest .raised .above i room, t .holds .latest .consistent .window i room) in
+      let low = start-low i room in
+      let high = latest-high i room in
+      let apart = window i room in
       (i, judged-grown (grow M (Job s d)) i b r (next-part M (Job s d) p (room, es, ed))
           (through _ _ _ r (λ f. omega arith) (through _ _ _ r (λ f. ⊎-elim (λ g. omega arith) (λ g. omega arith) f) (through _ _ _ r (λ f. omega (arith, t .shaped .few)) x))))
   next-accepted M (Before a c) b r p (all, y) x =

@@ -20,7 +20,7 @@ use Rattle.planner.specs.Sets.{has}
 use Rattle.planner.specs.Told.{jobs-of, latest-of, Told, nothing-listed}
 use Rattle.planner.specs.Outcome.{grow}
 use Rattle.jobfile.specs.Write.{gather, job-asked, order-asked, followers-asked, asks-of}
-use Rattle.jobfile.proofs.Part.{Part, Next, part-nothing, next-part, part-chain, loopless}
+use Rattle.jobfile.proofs.Part.{Part, Next, part-nothing, next-part, part-chain, loopless, start-low, latest-high}
 
 -- the list once the requests are entered
 unfoldable pub grown : Listed → List Request → Listed
@@ -126,10 +126,10 @@ module _ (k : Book) where
         (gather-covers (followers-asked (k .size) (k .before)) a (k .size) la (gather-covers (order-asked (k .before) a) b (k .size) lb (order-covers x)) (grown nothing-listed (jobs-upto (k .size))))
 
   -- ---- the book holds the list that they make
-  module _ (L : Listed) (t : Told k L) where
-    abbrev pub retold : Listed
-    retold = grown nothing-listed (asks-of k)
+  abbrev pub retold : Listed
+  retold = grown nothing-listed (asks-of k)
 
+  module _ (L : Listed) (t : Told k L) where
     part : Part k retold
     part = fits-part k L t nothing-listed (asks-of k) (part-nothing k) (asks-fit .0)
 
@@ -140,8 +140,8 @@ module _ (k : Book) where
     told-again = record {
       shaped = t .shaped;
       limited = record {
-        start = λ i l. omega (arith, part .start i l, starts i (omega (arith, all)));
-        deadline = λ i l. omega (arith, part .deadline i l, times i (omega (arith, all)));
+        start = λ i l. omega (arith, part .start i l, start-low k L t i (omega (arith, all)));
+        deadline = λ i l. omega (arith, part .deadline i l, latest-high k L t i (omega (arith, all)));
       };
       holds = record {
         formed = record { even = part .even; held = part .held };
@@ -157,9 +157,3 @@ module _ (k : Book) where
             (λ i l. omega (arith, part .deadline i (omega (arith, all)), t .holds .latest .beneath i l)) (λ i l. le-of-eq (sym (part .deadline i (omega (arith, all))))) (t .holds .latest);
       };
     }
-      where
-        starts : (i : ℕ) → i < k .size → jobs-of k .start i ≤ 4095
-        starts i l = omega (arith, t .holds .reads .start i l, t .limited .start i (omega (arith, t .holds .reads .size)))
-
-        times : (i : ℕ) → i < k .size → latest-of k i ≤ 4096
-        times i l = omega (arith, t .holds .latest .beneath i l, t .limited .deadline i (omega (arith, t .holds .reads .size)))

@@ -16,10 +16,10 @@ use Rattle.jobfile.proofs.writer.put_orders.Reads as put-orders-reads
 
 -- the bytes counted are the bytes of the file
 needed : (c : tie.After-pairs) → let k = c .before .before .before .before .args .t1 in 6 * (k .size + c .pairs .result) ≡ length (file-of k)
-needed c = let p = c .before .before .before .before in ap (λ (n : ℕ). 6 * (p .args .t1 .size + n)) (c .pairs .ensures) ∙ sym (file-length _ (p .pre .1 .shaped))
+needed c = let p = c .before .before .before .before in ap (λ (n : ℕ). 6 * (p .args .t1 .size + n)) (c .pairs .ensures) ∙ sym (file-length _ _ (p .pre .1))
 
 few : (c : tie.After-pairs) → c .before .before .before .before .args .t1 .size + c .pairs .result ≤ 4160
-few c = let p = c .before .before .before .before in omega (arith, p .pre .1 .shaped .few, pairs-few _ (p .pre .1 .shaped), c .pairs .ensures)
+few c = let p = c .before .before .before .before in omega (arith, p .pre .1 .shaped .few, pairs-few _ _ (p .pre .1), c .pairs .ensures)
 
 -- src/writer.rt:21:30
 pairs-requires : tie.Need-pairs-requires
