@@ -1,16 +1,16 @@
 -- A list that is part of what a book holds has a plan, so each request that makes it is accepted.
 -- Assumes nothing.
 use mathlib.Core.List.{List, [], _∷_, _++_}
-use mathlib.Core.Logic.{_⊎_, inl, inr, ⊎-elim}
-use mathlib.Core.Path.{_≡_, refl, sym, _∙_}
-use Prim.Native.Nat.{ℕ, suc, _+_, _≤_, _<_}
+use mathlib.Core.Logic.{⊎-elim}
+use mathlib.Core.Path.{_≡_, refl, _∙_}
+use Prim.Native.Nat.{ℕ, suc, _≤_, _<_}
 use native.Mathlib.Nat.{le-of-eq}
 use native.Mathlib.Omega.{arith}
 use lib.Dec.{T}
 use lib.ListN.{length, getD, length-append}
-use Rattle.schedule.specs.Jobs.{Closed, Loopless}
+use Rattle.schedule.specs.Jobs.{Closed}
 use Rattle.schedule.specs.Plan.{HasPlan}
-use Rattle.schedule.specs.Listed.{Listed, ordered, Chain, link, join, Looped, Formed, Reads, written, with-job, with-order}
+use Rattle.schedule.specs.Listed.{Listed, ordered, Chain, link, join, Formed, Reads, written, with-job, with-order}
 use Rattle.schedule.specs.Grow.{Extends}
 use Rattle.schedule.proofs.Rows.{put-all}
 use Rattle.schedule.proofs.Chains.{reads-closed, reads-loopless, jobs, jobs-reads, ordered-append, getD-put}
@@ -19,7 +19,6 @@ use Rattle.schedule.proofs.Grow.{plan-back}
 use Rattle.planner.specs.declared.book.Book.{Book}
 use Rattle.planner.specs.declared.book.Request.{Request}
 use Rattle.planner.specs.declared.book.Request.the-variants.{Job, Before, Earlier}
-use Rattle.planner.specs.declared.refusal.Answer.the-variants.{Accepted}
 use Rattle.planner.specs.declared.book.Applied.{Applied}
 use Rattle.planner.specs.Told.{jobs-of, latest-of, Told, nothing-listed}
 use Rattle.planner.specs.Unless.{Unless, refused, passed}
@@ -97,9 +96,17 @@ module _ (k : Book) (L : Listed) (t : Told k L) where
 
     -- the plan of the book is a plan of the part
     pub part-planned : Planned M
-    part-planned = (jobs M, reads, (plan .0, plan-back (jobs M) (jobs-of k) extends 2 (plan .0) (plan .1), record {
-      ends = λ i l. let h : i < length (M .starts) = omega (arith, reads .size) in omega (arith, p .deadline i h, p .fewer, plan .2 .ends i (omega (arith, p .fewer)));
-    }))
+    part-planned = (
+      jobs M,
+      reads,
+      (
+        plan .0,
+        plan-back (jobs M) (jobs-of k) extends 2 (plan .0) (plan .1),
+        record {
+          ends = λ i l. let h : i < length (M .starts) = omega (arith, reads .size) in omega (arith, p .deadline i h, p .fewer, plan .2 .ends i (omega (arith, p .fewer)));
+        },
+      ),
+    )
       where
         reads : Reads M (jobs M)
         reads = jobs-reads M part-formed
@@ -145,12 +152,16 @@ module _ (k : Book) (L : Listed) (t : Told k L) where
       let i = length (M .starts) in
       let low = start-low i room in
       let high = latest-high i room in
-      let apart = window i room in
-      (i, judged-grown (grow M (Job s d)) i b r (next-part M (Job s d) p (room, es, ed))
-          (through _ _ _ r (λ f. omega arith) (through _ _ _ r (λ f. ⊎-elim (λ g. omega arith) (λ g. omega arith) f) (through _ _ _ r (λ f. omega (arith, t .shaped .few)) x))))
+      let apart = window i room in (
+        i,
+        judged-grown (grow M (Job s d)) i b r (next-part M (Job s d) p (room, es, ed))
+            (through _ _ _ r (λ f. omega arith) (through _ _ _ r (λ f. ⊎-elim (λ g. omega arith) (λ g. omega arith) f) (through _ _ _ r (λ f. omega (arith, t .shaped .few)) x))),
+      )
   next-accepted M (Before a c) b r p (all, y) x =
-      let h = t .shaped .before-rest (a .0) (c .0) y in
-      (0, judged-grown (grow M (Before a c)) 0 b r (next-part M (Before a c) p (all, y))
-          (through _ _ _ r (λ f. ⊎-elim (λ e. let z = rw e at y in loopless (c .0) (c .0) z z) (λ z. loopless (a .0) (c .0) y (part-chain M p z)) f)
-          (through _ _ _ r (λ f. ⊎-elim (λ g. omega arith) (λ g. omega arith) f) x)))
+      let h = t .shaped .before-rest (a .0) (c .0) y in (
+        0,
+        judged-grown (grow M (Before a c)) 0 b r (next-part M (Before a c) p (all, y))
+            (through _ _ _ r (λ f. ⊎-elim (λ e. let z = rw e at y in loopless (c .0) (c .0) z z) (λ z. loopless (a .0) (c .0) y (part-chain M p z)) f)
+            (through _ _ _ r (λ f. ⊎-elim (λ g. omega arith) (λ g. omega arith) f) x)),
+      )
   next-accepted M (Earlier j d) b r p y x = absurd y

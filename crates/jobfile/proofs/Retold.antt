@@ -2,14 +2,14 @@
 -- Assumes nothing.
 use mathlib.Core.Bool.{Bool, true, false, cond}
 use mathlib.Core.List.{List, [], _∷_, _++_}
-use mathlib.Core.Logic.{_⊎_, inl, inr, ⊎-elim}
-use mathlib.Core.Path.{_≡_, refl, sym, ap, subst, _∙_}
-use Prim.Native.Nat.{ℕ, zero, suc, _+_, _≤_, _<_}
+use mathlib.Core.Logic.{inl, inr, ⊎-elim}
+use mathlib.Core.Path.{_≡_, refl, sym, _∙_}
+use Prim.Native.Nat.{ℕ, zero, suc, _≤_, _<_}
 use native.Mathlib.Nat.{le-of-eq, le-refl}
 use native.Mathlib.Omega.{arith}
 use lib.Dec.{T}
 use lib.ListN.{length, getD, length-append}
-use Rattle.schedule.specs.Listed.{Listed, ordered, Chain, link, written, with-job, with-order, with-deadline}
+use Rattle.schedule.specs.Listed.{Listed, ordered, link, written, with-job, with-order, with-deadline}
 use Rattle.schedule.proofs.Chains.{ordered-append}
 use Rattle.schedule.proofs.Grow.{latest-keeps}
 use Rattle.schedule.proofs.Search.{split-last}
@@ -57,9 +57,10 @@ module _ (k : Book) where
   jobs-fit zero h = (done, refl)
   jobs-fit (suc n) h =
       let ih = jobs-fit n (omega arith) in
-      let M = grown nothing-listed (jobs-upto n) in
-      (fits-append k nothing-listed (jobs-upto n) _ (ih .0) (next (omega (arith, ih .1), rw (ih .1) refl, rw (ih .1) refl) done),
-      rw (grown-append nothing-listed (jobs-upto n) _) (length-append (M .starts) _ ∙ omega (arith, ih .1)))
+      let M = grown nothing-listed (jobs-upto n) in (
+        fits-append k nothing-listed (jobs-upto n) _ (ih .0) (next (omega (arith, ih .1), rw (ih .1) refl, rw (ih .1) refl) done),
+        rw (grown-append nothing-listed (jobs-upto n) _) (length-append (M .starts) _ ∙ omega (arith, ih .1)),
+      )
 
   -- ---- the orders
   -- what holds of a list with all jobs, whatever orders it has, holds of what gathers

@@ -1,12 +1,12 @@
 -- What is written is read back.
 -- Assumes nothing.
-use mathlib.Core.List.{List, [], _∷_, _++_, append-assoc, append-nil}
-use mathlib.Core.Path.{_≡_, refl, sym, ap, ap₂, subst, _∙_}
-use Prim.Native.Nat.{ℕ, zero, suc, _+_, _*_, _≤_, _<_}
+use mathlib.Core.List.{List, [], _∷_, _++_, append-assoc}
+use mathlib.Core.Path.{_≡_, refl, sym, ap, ap₂, _∙_}
+use Prim.Native.Nat.{ℕ, _+_, _*_, _/_, _≤_, _<_}
 use native.Mathlib.Nat.{add-zero}
 use native.Mathlib.Omega.{arith}
-use lib.ListN.{length, getD, replicate, length-append}
-use lib.Seq.{getD-append-add}
+use lib.ListN.{length, getD, take, replicate, length-append}
+use lib.Seq.{getD-append-add, take-at}
 use Rattle.schedule.specs.Listed.{Listed}
 use Rattle.planner.specs.declared.book.Book.{Book}
 use Rattle.planner.specs.declared.book.Request.{Request}
@@ -22,12 +22,12 @@ use Rattle.jobfile.specs.declared.record.Asked.the-variants.{Known}
 use Rattle.jobfile.specs.declared.reader.Event.the-variants as event
 use Rattle.jobfile.specs.declared.reader.Step.{Step}
 use Rattle.jobfile.specs.Record.{word-at, JB, OR, TG, record-of, spell, asked, asked-at}
-use Rattle.jobfile.specs.Read.{stays, Answers, Asks, ReadOutcome, ReadsRecord}
-use Rattle.jobfile.specs.Write.{spelled, asks-of, file-of}
-use Rattle.jobfile.specs.File.{Pass, halts, goes}
+use Rattle.jobfile.specs.Read.{stays, Answers, ReadOutcome, ReadsRecord}
+use Rattle.jobfile.specs.Write.{spelled, asks-of, file-of, WritesBook}
+use Rattle.jobfile.specs.File.{Pass, halts, goes, Whole, ReadsFile}
 use Rattle.jobfile.specs.RoundTrip.{ReadsBack}
 use Rattle.jobfile.proofs.Spelled.{spell-length, spelled-length}
-use Rattle.jobfile.proofs.Part.{Part, part-nothing, next-part, next-accepted, through}
+use Rattle.jobfile.proofs.Part.{Part, Next, part-nothing, next-part, next-accepted, through}
 use Rattle.jobfile.proofs.Retold.{grown, Fits, done, next, asks-fit, retold, told-again}
 use Rattle.jobfile.proofs.Length.{file-short}
 use Rattle.jobfile.proofs.Whole.{request-inside}
@@ -67,6 +67,19 @@ module _ (k : Book) (L : Listed) (t : Told k L) (file : List ℕ) (short : lengt
   left : (qs : List Request) (front : List ℕ) → file ≡ front ++ spelled qs → length file ≡ length front + 6 * length qs
   left qs front e = ap length e ∙ length-append front (spelled qs) ∙ ap (λ (n : ℕ). length front + n) (spelled-length qs)
 
+  -- the next request is answered
+  read-next : (q : Request) (qs : List Request) (b : Book) (front : List ℕ) (at : ℕ) (r : Step) → file ≡ front ++ spelled (q ∷ qs) → at ≡ length front → ReadsRecord b file at r → Answers b q at r
+  unfolding spelled
+  read-next q qs b front at r e f x = read-asked b at q r (omega (arith, left (q ∷ qs) front e)) (rw (e, f) (read-spelled front (spelled qs) q)) x
+
+  -- and accepted
+  accepted-next : (M : Listed) (q : Request) (b : Book) (at : ℕ) (r : Step) (a : Answer) → Told b M → Part k M → Next k M q → r .event ≡ event.Request a → Answers b q at r →
+      (number-of a ≡ 0) × Told (r .book) (grow M q)
+  accepted-next M q b at r a s p n g y =
+      let z = next-accepted k L t M q b (record { book = r .book; answer = y .answer }) p n (y .applies .outcome M s) in
+      let same : a ≡ Accepted (z .0) = cc (z .1 .answer, y .event) in
+      (ap number-of same, z .1 .told)
+
   reads-on : (qs : List Request) (M : Listed) (b : Book) (front : List ℕ) (at : ℕ) (numbers : List ℕ) (r : Step) → Told b M → Part k M → Fits k M qs →
       file ≡ front ++ spelled qs → at ≡ length front → Pass file b at numbers r →
       (numbers ≡ replicate (length qs) 0) × Told (r .book) (grown M qs) × (r ≡ stays (r .book) (length file) event.End)
@@ -78,15 +91,14 @@ module _ (k : Book) (L : Listed) (t : Told k L) (file : List ℕ) (short : lengt
   reads-on [] M b front at numbers r s p done e f (goes u a x g rest) =
       absurd (omega (arith, left [] front e, request-inside b file at u a g (x .outcome) .whole))
   reads-on (q ∷ qs) M b front at numbers r s p (next n more) e f (halts x g) =
-      let y = read-asked b at q r (omega (arith, left (q ∷ qs) front e)) (rw (e, f) (read-spelled front (spelled qs) q)) x in
+      let y = read-next q qs b front at r e f x in
       absurd (g (y .answer) (y .event))
   reads-on (q ∷ qs) M b front at numbers r s p (next n more) e f (goes {numbers = others} u a x g rest) =
-      let y = read-asked b at q u (omega (arith, left (q ∷ qs) front e)) (rw (e, f) (read-spelled front (spelled qs) q)) x in
-      let z = next-accepted k L t M q b (record { book = u .book; answer = y .answer }) p n (y .applies .outcome M s) in
-      let same : a ≡ Accepted (z .0) = cc (z .1 .answer, y .event, g) in
-      let ih = reads-on qs (grow M q) (u .book) (front ++ spell q) (u .at) others r (z .1 .told) (next-part k L t M q p n) more (e ∙ sym (append-assoc front (spell q) (spelled qs)))
-          (omega (arith, y .moved, length-append front (spell q), spell-length q)) rest in
-      (ap₂ (λ (v : Answer) (l : List ℕ). number-of v ∷ l) same (ih .0), ih .1, ih .2)
+      let y = read-next q qs b front at u e f x in
+      let z = accepted-next M q b at u a s p n g y in
+      let ih = reads-on qs (grow M q) (u .book) (front ++ spell q) (u .at) others r (z .1) (next-part k L t M q p n) more (e ∙ sym (append-assoc front (spell q) (spelled qs)))
+      (omega (arith, y .moved, length-append front (spell q), spell-length q)) rest in
+      (ap₂ (λ (v : ℕ) (l : List ℕ). v ∷ l) (z .0) (ih .0), ih .1, ih .2)
 
 -- a book written out and read into an empty one is accepted at every record, ends at the length, and gives the same book (01, Job file)
 pub round-trip : (k e : Book) → Made k → Told e nothing-listed → ReadsBack k e
@@ -94,3 +106,23 @@ unfolding file-of
 round-trip k e m z numbers r pass =
     let x = reads-on k (m .0) (m .1) (file-of k) (file-short k (m .0) (m .1)) (asks-of k) nothing-listed e [] 0 numbers r z (part-nothing k) (asks-fit k .0) refl refl pass in
     (x .0, x .2 ∙ ap (λ (b : Book). stays b (length (file-of k)) event.End) (told-one (retold k) (r .book) k (x .1) (told-again k (m .0) (m .1))))
+
+-- the same by the calls: what write has written and read_file reads
+written-file : (k : Book) (old bytes : List ℕ) (n : ℕ) → WritesBook k old bytes (Accepted n) → (n ≡ length (file-of k)) × (take n bytes ≡ file-of k)
+written-file k old bytes n (refused f x) = absurd (let a = ap (λ (z : Answer × List ℕ). z .0) x in let z : _≡_ {A = ℕ} 0 1 = cc a in omega arith)
+written-file k old bytes n (passed f x) =
+    let a = ap (λ (z : Answer × List ℕ). z .0) x in
+    let e : n ≡ length (file-of k) = cc a in
+    (e, rw (ap (λ (z : Answer × List ℕ). z .1) x) (take-at (file-of k) _ n (sym e)))
+
+pub write-then-read : (k e : Book) (old bytes lent numbers : List ℕ) (n : ℕ) (r : Step) → Made k → Told e nothing-listed → WritesBook k old bytes (Accepted n) →
+    ReadsFile e (take n bytes) lent numbers r → n ≤ 6 * length lent → r ≡ stays k n event.End
+write-then-read k e old bytes lent numbers n r m z w x room = go (rw f at (x .outcome))
+  where
+    f : take n bytes ≡ file-of k
+    f = written-file k old bytes n w .1
+
+    go : Unless {A = Step × List ℕ} ((length (file-of k) ≤ 24576) × (length lent < length (file-of k) / 6)) (stays e 0 (event.Stopped 8 (length (file-of k) / 6)), lent)
+        (λ y. Whole e (file-of k) lent (y .1) (y .0)) (r, numbers) → r ≡ stays k n event.End
+    go (refused g y) = absurd (omega (arith, g .1, written-file k old bytes n w .0))
+    go (passed g y) = rw (written-file k old bytes n w .0) (round-trip k e m z (y .numbers) r (y .pass) .1)

@@ -2,7 +2,7 @@
 -- Assumes nothing.
 use mathlib.Core.List.{List, [], _∷_, _++_, append-assoc, append-nil}
 use mathlib.Core.Path.{_≡_, refl, sym, ap, ap₂, subst, _∙_}
-use Prim.Native.Nat.{ℕ, suc, _+_, _-_, _*_, _/_, _≤_, _<_}
+use Prim.Native.Nat.{ℕ, _+_, _-_, _/_, _≤_, _<_}
 use native.Mathlib.Numerals.{add-one}
 use native.Mathlib.Omega.{arith}
 use lib.ListN.{length, set, drop, length-append, length-drop}
@@ -11,16 +11,15 @@ use Rattle.planner.specs.declared.book.Book.{Book}
 use Rattle.planner.specs.declared.refusal.Answer.{Answer}
 use Rattle.planner.specs.Answer.{number-of}
 use Rattle.planner.specs.Told.{Made}
-use Rattle.planner.specs.Unless.{Unless, refused, passed, One}
+use Rattle.planner.specs.Unless.{refused, passed, One}
 use Rattle.schedule.proofs.Tests.{le-by}
 use Rattle.planner.proofs.Once.{unless-one}
 use Rattle.jobfile.specs.declared.record.Asked.{Asked}
 use Rattle.jobfile.specs.declared.record.Asked.the-variants.{Known, Unknown}
-use Rattle.jobfile.specs.declared.reader.Event.{Event}
 use Rattle.jobfile.specs.declared.reader.Event.the-variants as event
 use Rattle.jobfile.specs.declared.reader.Step.{Step}
 use Rattle.jobfile.specs.Record.{asked-at}
-use Rattle.jobfile.specs.Read.{stays, Asks, ReadOutcome, ReadsRecord}
+use Rattle.jobfile.specs.Read.{Asks, ReadOutcome, ReadsRecord}
 use Rattle.jobfile.specs.File.{Pass, halts, goes, Whole, ReadsFile}
 use Rattle.jobfile.specs.Inner.File.{Underway}
 use Rattle.jobfile.proofs.Reading.{reads-only}

@@ -1,7 +1,7 @@
 -- A book written out: what the code stores is the file, and writing has one outcome.
 -- Assumes nothing.
 use mathlib.Core.List.{List, _++_}
-use mathlib.Core.Path.{_≡_, refl, sym, ap, _∙_}
+use mathlib.Core.Path.{_≡_, sym, ap, _∙_}
 use Prim.Native.Nat.{ℕ, _+_, _*_, _≤_, _<_}
 use native.Mathlib.Nat.{zero-add}
 use native.Mathlib.Omega.{arith}
@@ -10,7 +10,6 @@ use lib.Seq.{sets, sets-eq}
 use Rattle.planner.specs.declared.book.Book.{Book}
 use Rattle.planner.specs.declared.refusal.Answer.{Answer}
 use Rattle.planner.specs.declared.refusal.Answer.the-variants.{Accepted, Refused}
-use Rattle.planner.specs.Told.{Shaped}
 use Rattle.planner.specs.Unless.{refused, passed}
 use Rattle.planner.proofs.Once.{unless-one}
 use Rattle.jobfile.specs.Write.{gather, spelled, job-asked, followers-asked, asks-of, file-of, WritesBook}
