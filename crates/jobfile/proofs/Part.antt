@@ -2,26 +2,23 @@
 -- Assumes nothing.
 use mathlib.Core.List.{List, [], _∷_, _++_}
 use mathlib.Core.Logic.{⊎-elim}
-use mathlib.Core.Path.{_≡_, refl, _∙_}
+use mathlib.Core.Path.{_≡_, refl}
 use Prim.Native.Nat.{ℕ, suc, _≤_, _<_}
-use native.Mathlib.Nat.{le-of-eq}
 use native.Mathlib.Omega.{arith}
 use lib.Dec.{T}
 use lib.ListN.{length, getD, length-append}
 use Rattle.schedule.specs.Jobs.{Closed}
-use Rattle.schedule.specs.Plan.{HasPlan}
-use Rattle.schedule.specs.Listed.{Listed, ordered, Chain, link, join, Formed, Reads, written, with-job, with-order}
-use Rattle.schedule.specs.Grow.{Extends}
+use Rattle.schedule.specs.Listed.{Listed, ordered, Chain, link, join, written, with-job, with-order}
 use Rattle.schedule.proofs.Rows.{put-all}
-use Rattle.schedule.proofs.Chains.{reads-closed, reads-loopless, jobs, jobs-reads, ordered-append, getD-put}
+use Rattle.schedule.proofs.Chains.{reads-closed, reads-loopless, ordered-append, getD-put}
 use Rattle.schedule.proofs.Made.{row-has-plan}
-use Rattle.schedule.proofs.Grow.{plan-back}
 use Rattle.planner.specs.declared.book.Book.{Book}
 use Rattle.planner.specs.declared.book.Request.{Request}
 use Rattle.planner.specs.declared.book.Request.the-variants.{Job, Before, Earlier}
 use Rattle.planner.specs.declared.book.Applied.{Applied}
 use Rattle.planner.specs.Told.{jobs-of, latest-of, Told, nothing-listed}
 use Rattle.planner.specs.Unless.{Unless, refused, passed}
+use Rattle.planner.proofs.Requests.{among-planned}
 use Rattle.planner.specs.Outcome.{Planned, Grown, Judged, Outcome, grow}
 
 -- the first jobs of the book with their latest times, and orders that the book has
@@ -83,9 +80,6 @@ module _ (k : Book) (L : Listed) (t : Told k L) where
     window = omega (arith, t .holds .earliest .raised .above i l, t .holds .latest .consistent .window i l)
 
   module _ (M : Listed) (p : Part k M) where
-    part-formed : Formed M
-    part-formed = record { even = p .even; held = p .held }
-
     pub part-chain : {a b : ℕ} → Chain (M .orders) a b → T (jobs-of k .before a b)
     part-chain (link {a = a} {b = b} x) = p .order a b x
     part-chain (join {a = a} {b = b} {c = c} x y) =
@@ -96,30 +90,8 @@ module _ (k : Book) (L : Listed) (t : Told k L) where
 
     -- the plan of the book is a plan of the part
     pub part-planned : Planned M
-    part-planned = (
-      jobs M,
-      reads,
-      (
-        plan .0,
-        plan-back (jobs M) (jobs-of k) extends 2 (plan .0) (plan .1),
-        record {
-          ends = λ i l. let h : i < length (M .starts) = omega (arith, reads .size) in omega (arith, p .deadline i h, p .fewer, plan .2 .ends i (omega (arith, p .fewer)));
-        },
-      ),
-    )
-      where
-        reads : Reads M (jobs M)
-        reads = jobs-reads M part-formed
-
-        plan : HasPlan 2 (jobs-of k) (latest-of k)
-        plan = row-has-plan 2 (jobs-of k) (t .holds .early) (latest-of k) (omega arith) (omega arith) closed (t .holds .earliest) (t .holds .latest .consistent)
-
-        extends : Extends (jobs M) (jobs-of k)
-        extends = record {
-          longer = omega (arith, reads .size, p .fewer);
-          starts = λ i l. le-of-eq (reads .start i l ∙ p .start i (omega (arith, reads .size)));
-          chains = λ a b la lb x. part-chain (reads .before a b la lb .0 x);
-        }
+    part-planned = among-planned M (jobs-of k) (latest-of k) (record { even = p .even; held = p .held }) (p .fewer) (p .start) (p .deadline) (λ a b la lb c. part-chain c)
+        (row-has-plan 2 (jobs-of k) (t .holds .early) (latest-of k) (omega arith) (omega arith) closed (t .holds .earliest) (t .holds .latest .consistent))
 
   -- ---- one request more
   pub next-part : (M : Listed) (q : Request) → Part k M → Next k M q → Part k (grow M q)
