@@ -17,7 +17,7 @@ use Rattle.planner.specs.declared.book.Request.{Request}
 use Rattle.planner.specs.declared.book.Request.the-variants.{Job, Before, Earlier}
 use Rattle.planner.specs.declared.book.Applied.{Applied}
 use Rattle.planner.specs.Told.{jobs-of, latest-of, Told, nothing-listed}
-use Rattle.planner.specs.Unless.{Unless, refused, passed}
+use Rattle.planner.proofs.Judged.{unless-free}
 use Rattle.planner.proofs.Requests.{among-planned}
 use Rattle.planner.specs.Outcome.{Planned, Grown, Judged, Outcome, grow}
 
@@ -53,11 +53,6 @@ snoc-agrees : (l : List ℕ) (v : ℕ) (row : ℕ → ℕ) → ((i : ℕ) → i 
 snoc-agrees l v row h e i lt =
     let n : i < suc (length l) = omega (arith, length-append l (v ∷ [])) in
     rw (getD-put l v 0 i n) (put-all (λ (x y : ℕ). x < suc (length l) → y ≡ row x) (λ j. getD l j 0) (length l) v i (λ z. e) (λ f z. h i (omega arith)) n)
-
--- ---- a check that finds no fault
-pub through : {A : Type 0} (fault : Type 0) (refusal : A) (next : A → Type 0) (r : A) → (fault → ⊥) → Unless fault refusal next r → next r
-through fault refusal next r f (refused x e) = absurd (f x)
-through fault refusal next r f (passed x y) = y
 
 module _ (k : Book) (L : Listed) (t : Told k L) where
   closed : Closed (jobs-of k)
@@ -117,7 +112,7 @@ module _ (k : Book) (L : Listed) (t : Told k L) where
 
   -- is accepted
   judged-grown : (M : Listed) (value : ℕ) (b : Book) (r : Applied) → Part k M → Judged M value b r → Grown M value r
-  judged-grown M value b r p x = through _ _ _ r (λ no. no (part-planned M p)) x
+  judged-grown M value b r p x = unless-free _ _ _ r (λ no. no (part-planned M p)) x
 
   pub next-accepted : (M : Listed) (q : Request) (b : Book) (r : Applied) → Part k M → Next k M q → Outcome M b q r → (value : ℕ) × Grown (grow M q) value r
   next-accepted M (Job s d) b r p (room, es, ed) x =
@@ -127,13 +122,13 @@ module _ (k : Book) (L : Listed) (t : Told k L) where
       let apart = window i room in (
         i,
         judged-grown (grow M (Job s d)) i b r (next-part M (Job s d) p (room, es, ed))
-            (through _ _ _ r (λ f. omega arith) (through _ _ _ r (λ f. ⊎-elim (λ g. omega arith) (λ g. omega arith) f) (through _ _ _ r (λ f. omega (arith, t .shaped .few)) x))),
+            (unless-free _ _ _ r (λ f. omega arith) (unless-free _ _ _ r (λ f. ⊎-elim (λ g. omega arith) (λ g. omega arith) f) (unless-free _ _ _ r (λ f. omega (arith, t .shaped .few)) x))),
       )
   next-accepted M (Before a c) b r p (all, y) x =
       let h = t .shaped .before-rest (a .0) (c .0) y in (
         0,
         judged-grown (grow M (Before a c)) 0 b r (next-part M (Before a c) p (all, y))
-            (through _ _ _ r (λ f. ⊎-elim (λ e. let z = rw e at y in loopless (c .0) (c .0) z z) (λ z. loopless (a .0) (c .0) y (part-chain M p z)) f)
-            (through _ _ _ r (λ f. ⊎-elim (λ g. omega arith) (λ g. omega arith) f) x)),
+            (unless-free _ _ _ r (λ f. ⊎-elim (λ e. let z = rw e at y in loopless (c .0) (c .0) z z) (λ z. loopless (a .0) (c .0) y (part-chain M p z)) f)
+            (unless-free _ _ _ r (λ f. ⊎-elim (λ g. omega arith) (λ g. omega arith) f) x)),
       )
   next-accepted M (Earlier j d) b r p y x = absurd y
