@@ -1,0 +1,286 @@
+-- The laws of sets that are numbers: what digit each operation gives, the count of ones, and that digits settle the number.
+-- Assumes nothing.
+use Prim.Native.Nat.{ℕ, zero, suc, _+_, _-_, _*_, _/_, _%_, _^_, _≤_, _<_}
+use native.Mathlib.Nat.{sub-zero, mod-lt, mod-eq-of-lt, div-eq-of-lt, div-one, zero-div, one-mul, mul-mod-left, pow-suc, lt-of-lt-of-le, mod-one}
+use native.Mathlib.Decide.{decLt}
+use native.Mathlib.Numerals.{one-add}
+use native.Mathlib.Omega.{arith}
+use mathlib.Core.Bool.{Bool, true, false, not, _&&_, _||_}
+use mathlib.Core.Logic.{_⊎_, inl, inr, ⊎-elim}
+use mathlib.Core.Path.{_≡_, refl, sym, ap, ap₂, _∙_, subst}
+use borrow.Author.Tests.{lt-ltb, le-ltb, eq-eqb, ne-eqb, eqb-true}
+use lib.Dec.{T, T-not, not-T, eqb→eq, eqb-refl, eqb, ltb, lit<, eqb·suc-zero, eqb·zero-suc, eqb·suc-suc}
+use lib.Bits.{bitAnd, bitOr, bitXor, and-lt, and-shr, or-shr, xor-shr, and-mod, or-mod, xor-mod}
+use lib.Count.{ones, ones-cat, trailingZeros, under}
+use lib.Pow.{pow-pos, pow-lt, pow-mono, mod-pow-add, shr-shr, shl-exact}
+use Rattle.schedule.specs.Count.{one, count}
+use Rattle.schedule.proofs.Tests.{test, and-pair, and-fst, and-snd, lt-by}
+use Rattle.schedule.proofs.Counting.{count-lt, count-but, count-mono}
+use Rattle.planner.specs.Sets.{has}
+
+-- what holds at 0 and at 1 holds of a digit
+digit : (P : ℕ → Type 0) → P 0 → P 1 → (n : ℕ) → P (n % 2)
+digit P p₀ p₁ n = go (n % 2) (mod-lt n (lit< tt))
+  where
+    go : (r : ℕ) → r < 2 → P r
+    go zero h = p₀
+    go (suc zero) h = p₁
+    go (suc (suc r)) h = absurd (omega arith)
+
+-- Any operation that goes digit by digit: its digit j is the operation's own of the two digits j.
+module _ (op : ℕ → ℕ → ℕ) (f : Bool → Bool → Bool)
+    (shr : (a b k : ℕ) → op a b / 2 ^ k ≡ op (a / 2 ^ k) (b / 2 ^ k))
+    (low : (a b k : ℕ) → op a b % 2 ^ k ≡ op (a % 2 ^ k) (b % 2 ^ k))
+    (t00 : eqb (op 0 0) 1 ≡ f false false) (t01 : eqb (op 0 1) 1 ≡ f false true)
+    (t10 : eqb (op 1 0) 1 ≡ f true false) (t11 : eqb (op 1 1) 1 ≡ f true true) where
+  at-digits : (a b : ℕ) → eqb (op (a % 2) (b % 2)) 1 ≡ f (eqb (a % 2) 1) (eqb (b % 2) 1)
+  at-digits a b =
+      digit (λ (p : ℕ). eqb (op p (b % 2)) 1 ≡ f (eqb p 1) (eqb (b % 2) 1))
+      (digit (λ (q : ℕ). eqb (op 0 q) 1 ≡ f false (eqb q 1)) t00 t01 b)
+      (digit (λ (q : ℕ). eqb (op 1 q) 1 ≡ f true (eqb q 1)) t10 t11 b) a
+
+  op-has : (x y j : ℕ) → has (op x y) j ≡ f (has x j) (has y j)
+  unfolding has
+  op-has x y j =
+      ap (λ (n : ℕ). eqb (n % 2) 1) (shr x y j)
+      ∙ ap (λ (n : ℕ). eqb n 1) (low (x / 2 ^ j) (y / 2 ^ j) 1)
+      ∙ at-digits (x / 2 ^ j) (y / 2 ^ j)
+
+pub and-has : (x y j : ℕ) → has (bitAnd x y) j ≡ (has x j && has y j)
+and-has = op-has bitAnd (λ p q. p && q) and-shr and-mod refl refl refl refl
+
+pub or-has : (x y j : ℕ) → has (bitOr x y) j ≡ (has x j || has y j)
+or-has = op-has bitOr (λ p q. p || q) or-shr or-mod refl refl refl refl
+
+abbrev pub differ? : Bool → Bool → Bool
+differ? true q = not q
+differ? false q = q
+
+pub xor-has : (x y j : ℕ) → has (bitXor x y) j ≡ differ? (has x j) (has y j)
+xor-has = op-has bitXor differ? xor-shr xor-mod refl refl refl refl
+
+-- digits past a number's length are not set
+pub high-has : (x j : ℕ) → x < 2 ^ j → has x j ≡ false
+unfolding has
+high-has x j h = ap (λ (n : ℕ). eqb (n % 2) 1) (div-eq-of-lt h)
+
+-- The count of ones of the n low digits is the count of the numbers below n that are in the set.
+ones-digit : (d : ℕ) → ones (d % 2) ≡ one (eqb (d % 2) 1)
+unfolding ones
+ones-digit d = digit (λ (p : ℕ). ones p ≡ one (eqb p 1)) refl refl d
+
+low-ones : (n x : ℕ) → ones (x % 2 ^ n) ≡ count n (has x)
+unfolding count has ones
+low-ones zero x = ap ones (mod-one x)
+low-ones (suc n) x =
+    ap (λ (m : ℕ). ones (x % 2 ^ m)) (sym (one-add n))
+    ∙ ap ones (mod-pow-add x 1 n)
+    ∙ ones-cat n (x / 2 ^ n % 2) (x % 2 ^ n) (mod-lt x (pow-pos n))
+    ∙ ap₂ (λ (a b : ℕ). a + b) (ones-digit (x / 2 ^ n)) (low-ones n x)
+
+pub ones-count : (n x : ℕ) → x < 2 ^ n → ones x ≡ count n (has x)
+ones-count n x h = ap ones (sym (mod-eq-of-lt h)) ∙ low-ones n x
+
+-- digit j + 1 of x is digit j of its half
+half-has : (x j : ℕ) → has x (suc j) ≡ has (x / 2) j
+unfolding has
+half-has x j = ap (λ (n : ℕ). eqb (n % 2) 1) (ap (λ (m : ℕ). x / 2 ^ m) (sym (one-add j)) ∙ sym (shr-shr x 1 j))
+
+-- the complement in k digits
+flip : (p x : ℕ) → x < p * 2 → eqb ((p * 2 - 1 - x) % 2) 1 ≡ not (eqb (x % 2) 1)
+flip p x h =
+    ap (λ (n : ℕ). eqb n 1) (let e : (p * 2 - 1 - x) % 2 ≡ 1 - x % 2 = omega arith in e)
+    ∙ digit (λ (d : ℕ). eqb (1 - d) 1 ≡ not (eqb d 1)) refl refl x
+
+pub not-has : (k x j : ℕ) → x < 2 ^ k → j < k → has ((2 ^ k - 1) - x) j ≡ not (has x j)
+unfolding has
+not-has zero x j h hj = absurd (omega arith)
+not-has (suc k) x zero h hj =
+    simp (div-one, pow-suc) (flip (2 ^ k) x (rw pow-suc at h))
+not-has (suc k) x (suc j) h hj =
+    let h′ : x < 2 ^ k * 2 = rw pow-suc at h in
+    half-has (2 ^ suc k - 1 - x) j
+    ∙ ap (λ (n : ℕ). has n j)
+    (ap (λ (p : ℕ). (p - 1 - x) / 2) (pow-suc 2 k) ∙ (let e : (2 ^ k * 2 - 1 - x) / 2 ≡ 2 ^ k - 1 - x / 2 = omega arith in e))
+    ∙ not-has k (x / 2) j (omega arith) (omega arith)
+    ∙ ap not (sym (half-has x j))
+
+-- the set of i alone, as code writes it
+two-even : (m : ℕ) → has (2 ^ suc m) 0 ≡ false
+unfolding has
+two-even m = simp (div-one, pow-suc, mul-mod-left)
+
+one-has : (i j : ℕ) → has (2 ^ i) j ≡ eqb j i
+unfolding has
+one-has zero zero = refl
+one-has zero (suc j) = high-has 1 (suc j) (pow-lt {i = 0} {j = suc j} (omega arith)) ∙ sym (eqb·suc-zero j)
+one-has (suc i) zero = two-even i ∙ sym (eqb·zero-suc i)
+one-has (suc i) (suc j) =
+    half-has (2 ^ suc i) j
+    ∙ ap (λ (n : ℕ). has n j) (ap (λ (n : ℕ). n / 2) (pow-suc 2 i) ∙ (let e : 2 ^ i * 2 / 2 ≡ 2 ^ i = omega arith in e))
+    ∙ one-has i j ∙ sym (eqb·suc-suc j i)
+
+-- the set of i alone, as the code makes it, `1u64 << i`
+abbrev pub only : ℕ → ℕ
+only i = (1 * 2 ^ i) % 2 ^ 64
+
+pub only-is : (i : ℕ) → i < 64 → only i ≡ 2 ^ i
+only-is i h = shl-exact 1 i 64 (lit< tt) (omega arith) ∙ one-mul (2 ^ i)
+
+pub only-has : (i j : ℕ) → i < 64 → has (only i) j ≡ eqb j i
+only-has i j h = ap (λ (n : ℕ). has n j) (only-is i h) ∙ one-has i j
+
+-- i put into x, and i taken out of x
+pub with-has : (x i j : ℕ) → i < 64 → has (bitOr x (only i)) j ≡ (has x j || eqb j i)
+with-has x i j h = or-has x (only i) j ∙ ap (λ (b : Bool). has x j || b) (only-has i j h)
+
+pub without-has : (x i j : ℕ) → x < 2 ^ 64 → i < 64 → has (bitAnd x ((2 ^ 64 - 1) - only i)) j ≡ (has x j && not (eqb j i))
+without-has x i j hx hi =
+    and-has x ((2 ^ 64 - 1) - only i) j ∙ go (decLt j 64)
+  where
+    go : Dec (j < 64) → (has x j && has ((2 ^ 64 - 1) - only i) j) ≡ (has x j && not (eqb j i))
+    go (yes h) = ap (λ (b : Bool). has x j && b) (not-has 64 (only i) j (mod-lt (1 * 2 ^ i) (lit< tt)) h ∙ ap not (only-has i j hi))
+    go (no h) = simp (high-has x j (lt-of-lt-of-le hx (pow-mono {i = 64} {j = j} (omega arith))))
+
+-- counts of tests that agree agree; a count is at most the numbers counted
+pub count-same : (n : ℕ) (p q : ℕ → Bool) → ((j : ℕ) → j < n → p j ≡ q j) → count n p ≡ count n q
+unfolding count
+count-same zero p q h = refl
+count-same (suc n) p q h =
+    ap₂ (λ (b : Bool) (m : ℕ). one b + m) (h n (omega arith)) (count-same n p q (λ j k. h j (omega arith)))
+
+-- digits settle the number
+digit-of : (n : ℕ) → n % 2 ≡ one (eqb (n % 2) 1)
+digit-of n = digit (λ (d : ℕ). d ≡ one (eqb d 1)) refl refl n
+
+low-same : (n x y : ℕ) → ((j : ℕ) → j < n → has x j ≡ has y j) → x % 2 ^ n ≡ y % 2 ^ n
+unfolding has
+low-same zero x y h = mod-one x ∙ sym (mod-one y)
+low-same (suc n) x y h =
+    ap (λ (m : ℕ). x % 2 ^ m) (sym (one-add n)) ∙ mod-pow-add x 1 n
+    ∙ ap₂ (λ (d r : ℕ). d * 2 ^ n + r)
+    (digit-of (x / 2 ^ n) ∙ ap one (h n (omega arith)) ∙ sym (digit-of (y / 2 ^ n)))
+    (low-same n x y (λ j k. h j (omega arith)))
+    ∙ sym (mod-pow-add y 1 n) ∙ ap (λ (m : ℕ). y % 2 ^ m) (one-add n)
+
+pub has-same : (n x y : ℕ) → x < 2 ^ n → y < 2 ^ n → ((j : ℕ) → j < n → has x j ≡ has y j) → x ≡ y
+has-same n x y hx hy h = sym (mod-eq-of-lt hx) ∙ low-same n x y h ∙ mod-eq-of-lt hy
+
+-- A loop that builds a set by a test p, number by number: below i + 1 is below i, or i.
+pub ltb-more : (j i : ℕ) → ltb j (i + 1) ≡ (ltb j i || eqb j i)
+ltb-more j i = go (decLt j i) (decLt i j)
+  where
+    go : Dec (j < i) → Dec (i < j) → ltb j (i + 1) ≡ (ltb j i || eqb j i)
+    go (yes h) e = simp (lt-ltb j (i + 1) (omega arith), lt-ltb j i h)
+    go (no h) (yes k) = simp (le-ltb j (i + 1) (omega arith), le-ltb j i (omega arith), ne-eqb j i (λ q. omega arith))
+    go (no h) (no k) = simp (lt-ltb j (i + 1) (omega arith), le-ltb j i (omega arith), eq-eqb j i (omega arith))
+
+-- s holds exactly the numbers below n that pass p
+abbrev pub Built : (ℕ → Bool) → ℕ → ℕ → Type 0
+Built p n s = (j : ℕ) → has s j ≡ (ltb j n && p j)
+
+pub built-none : (p : ℕ → Bool) → Built p 0 0
+unfolding has
+built-none p j = ap (λ (n : ℕ). eqb (n % 2) 1) (zero-div (2 ^ j)) ∙ sym (ap (λ (b : Bool). b && p j) (le-ltb j 0 (omega arith)))
+
+both : (a b e : Bool) → (e ≡ true → b ≡ true) → ((a && b) || e) ≡ ((a || e) && b)
+both true true e h = refl
+both true false true h = sym (h refl)
+both true false false h = refl
+both false b true h = sym (h refl)
+both false b false h = refl
+
+pub built-more : (p : ℕ → Bool) (i s r : ℕ) → p i ≡ true → Built p i s → ((j : ℕ) → has r j ≡ (has s j || eqb j i)) → Built p (i + 1) r
+built-more p i s r pi h w j =
+    w j ∙ ap (λ (b : Bool). b || eqb j i) (h j)
+    ∙ both (ltb j i) (p j) (eqb j i) (λ e. ap p (eqb-true j i e) ∙ pi)
+    ∙ sym (ap (λ (b : Bool). b && p j) (ltb-more j i))
+
+skip : (a b e : Bool) → (e ≡ true → b ≡ false) → (a && b) ≡ ((a || e) && b)
+skip true b e h = refl
+skip false b true h = sym (h refl)
+skip false b false h = refl
+
+pub built-same : (p : ℕ → Bool) (i s : ℕ) → p i ≡ false → Built p i s → Built p (i + 1) s
+built-same p i s pi h j =
+    h j ∙ skip (ltb j i) (p j) (eqb j i) (λ e. ap p (eqb-true j i e) ∙ pi)
+    ∙ sym (ap (λ (b : Bool). b && p j) (ltb-more j i))
+
+-- no job is in the empty set, and a set without jobs is empty
+pub empty-has : (j : ℕ) → has 0 j ≡ false
+empty-has j = high-has 0 j (pow-pos j)
+
+pub empty-is : (x : ℕ) → x < 2 ^ 64 → ((j : ℕ) → has x j ≡ false) → x ≡ 0
+empty-is x h f = has-same 64 x 0 h (pow-pos 64) (λ j l. f j ∙ sym (empty-has j))
+
+-- a job in a set is below 64, and its set is not empty
+pub has-below : (x j : ℕ) → x < 2 ^ 64 → T (has x j) → j < 64
+has-below x j h t = lt-by j 64 (λ le. subst T (high-has x j (lt-of-lt-of-le h (pow-mono {i = 64} {j = j} le))) t)
+
+pub has-some : (x j : ℕ) → T (has x j) → x ≡ 0 → ⊥
+has-some x j t e = subst T (ap (λ (n : ℕ). has n j) e ∙ empty-has j) t
+
+-- the jobs below n
+pub low-has : (n j : ℕ) → has (2 ^ n - 1) j ≡ ltb j n
+low-has n j = go (decLt j n)
+  where
+    go : Dec (j < n) → has (2 ^ n - 1) j ≡ ltb j n
+    go (yes h) = ap (λ (x : ℕ). has x j) (sym (sub-zero (2 ^ n - 1))) ∙ not-has n 0 j (pow-pos n) h ∙ ap not (empty-has j) ∙ sym (lt-ltb j n h)
+    go (no h) =
+        high-has (2 ^ n - 1) j (omega (arith, pow-mono {i = n} {j = j} (omega arith), pow-pos n)) ∙ sym (le-ltb j n (omega arith))
+
+-- the lowest one of a number is one of its digits
+pub trailing-has : (k x : ℕ) → x < 2 ^ k → (x ≡ 0 → ⊥) → (trailingZeros k x < k) × T (has x (trailingZeros k x))
+unfolding trailingZeros
+trailing-has zero x h f = absurd (f (omega arith))
+trailing-has (suc k) x h f = go (x % 2) refl (λ g. trailing-has k (x / 2) (let e : x / 2 < 2 ^ k = omega (arith, rw pow-suc at h) in e) g)
+  where
+    lowest : x % 2 ≡ 1 → T (has x 0)
+    lowest e = unfold has in simp (div-one, e) tt
+
+    go : (r : ℕ) → x % 2 ≡ r → ((x / 2 ≡ 0 → ⊥) → (trailingZeros k (x / 2) < k) × T (has (x / 2) (trailingZeros k (x / 2)))) →
+        (under r (trailingZeros k (x / 2)) < suc k) × T (has x (under r (trailingZeros k (x / 2))))
+    go zero e ih = let y = ih (λ z. f (omega arith)) in (omega (arith, y .0), rw half-has (y .1))
+    go (suc r) e ih = (omega arith, lowest (omega arith))
+
+-- A walk over a set, job by job: x without k is y.
+module _ (x y k : ℕ) (w : (j : ℕ) → has y j ≡ (has x j && not (eqb j k))) where
+  pub walk-sub : (j : ℕ) → T (has y j) → T (has x j)
+  walk-sub j t = and-fst (has x j) (not (eqb j k)) (rw (w j) at t)
+
+  pub walk-split : (j : ℕ) → T (has x j) → (j ≡ k) ⊎ T (has y j)
+  walk-split j t = ⊎-elim (λ e. inl (eqb→eq j k e)) (λ f. inr (rw (w j) (and-pair (has x j) (not (eqb j k)) t (not-T (eqb j k) f)))) (test (eqb j k))
+
+  pub walk-out : T (has y k) → ⊥
+  walk-out t = T-not (eqb k k) (and-snd (has x k) (not (eqb k k)) (rw (w k) at t)) (eqb-refl k)
+
+  pub walk-less : k < 64 → T (has x k) → count 64 (has y) < count 64 (has x)
+  walk-less l t = count-lt 64 (has y) (has x) k l (λ j h. walk-sub j) t walk-out
+
+  pub walk-one : k < 64 → T (has x k) → count 64 (has x) ≡ count 64 (has y) + 1
+  walk-one l t =
+      let but : count 64 (λ j. not (eqb j k) && has x j) ≤ count 64 (has y) = count-mono 64 (λ j. not (eqb j k) && has x j) (has y)
+      (λ j h u. rw (w j) (and-pair (has x j) (not (eqb j k)) (and-snd (not (eqb j k)) (has x j) u) (and-fst (not (eqb j k)) (has x j) u))) in
+      omega (arith, walk-less l t, count-but 64 (has x) k)
+
+-- sets apart have an empty meet
+none-both : (a b : Bool) → (T a → T b → ⊥) → (a && b) ≡ false
+none-both true true f = absurd (f tt tt)
+none-both true false f = refl
+none-both false b f = refl
+
+pub apart-is : (x y : ℕ) → x < 2 ^ 64 → y < 2 ^ 64 → ((a : ℕ) → T (has x a) → T (has y a) → ⊥) → bitAnd x y ≡ 0
+apart-is x y hx hy f = empty-is (bitAnd x y) (and-lt 64 x y hx hy) (λ j. and-has x y j ∙ none-both (has x j) (has y j) (f j))
+
+pub apart-has : (x y : ℕ) → bitAnd x y ≡ 0 → (a : ℕ) → T (has x a) → T (has y a) → ⊥
+apart-has x y e a t u = has-some (bitAnd x y) a (rw (and-has x y a) (and-pair (has x a) (has y a) t u)) e
+
+-- a count of tests that fail from n on stops at n
+pub count-cut : (n k : ℕ) (p q : ℕ → Bool) → n ≤ k → ((j : ℕ) → j < n → p j ≡ q j) → ((j : ℕ) → n ≤ j → p j ≡ false) → count k p ≡ count n q
+unfolding count
+count-cut n zero p q h f g = let e : n ≡ 0 = omega arith in rw e refl
+count-cut n (suc k) p q h f g = go (decLt k n) (λ l. count-cut n k p q l f g)
+  where
+    go : Dec (k < n) → (n ≤ k → count k p ≡ count n q) → count (suc k) p ≡ count n q
+    go (yes l) ih = let e : n ≡ suc k = omega arith in rw e (count-same (suc k) p q (λ j i. f j (omega arith)))
+    go (no l) ih = unfold count in ap (λ (b : Bool). one b + count k p) (g k (omega arith)) ∙ (let e : 0 + count k p ≡ count n q = omega (arith, ih (omega arith)) in e)

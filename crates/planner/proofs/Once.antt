@@ -1,0 +1,77 @@
+-- A request has one outcome.
+-- Assumes nothing.
+use mathlib.Core.Path.{_≡_, sym, ap, _∙_}
+use Prim.Native.Nat.{ℕ}
+use native.Mathlib.Nat.{le-antisymm}
+use Rattle.schedule.specs.Listed.{Listed}
+use Rattle.schedule.proofs.Tests.{le-by}
+use Rattle.planner.specs.declared.book.Book.{Book}
+use Rattle.planner.specs.declared.book.Request.{Request}
+use Rattle.planner.specs.declared.book.Request.the-variants.{Job, Before, Earlier}
+use Rattle.planner.specs.declared.book.Applied.{Applied}
+use Rattle.planner.specs.Told.{Told, Made}
+use Rattle.planner.specs.Unless.{Unless, refused, passed, UnlessAt, first, clear, One}
+use Rattle.planner.specs.Outcome.{refusal, Grown, Outcome, Outcomes, Applies, kept, Run, opened, asked}
+use Rattle.planner.proofs.Same.{told-one}
+
+-- a check keeps one result one
+pub unless-one : {A : Type 0} (fault : Type 0) (refusal : A) (next : A → Type 0) → One next → One (Unless fault refusal next)
+unless-one fault refusal next one r s (refused f x) (refused g y) = x ∙ sym y
+unless-one fault refusal next one r s (refused f x) (passed g y) = absurd (g f)
+unless-one fault refusal next one r s (passed f x) (refused g y) = absurd (f g)
+unless-one fault refusal next one r s (passed f x) (passed g y) = one r s x y
+
+-- and so does a check of every place
+pub unless-at-one : {A : Type 0} (n : ℕ) (fault : ℕ → Type 0) (refusal : ℕ → A) (next : A → Type 0) → One next → One (UnlessAt n fault refusal next)
+unless-at-one n fault refusal next one r s (first i l b f x) (first j m c g y) = x ∙ ap refusal same ∙ sym y
+  where
+    same : i ≡ j
+    same = le-antisymm (le-by i j (λ h. b j h g)) (le-by j i (λ h. c i h f))
+unless-at-one n fault refusal next one r s (first i l b f x) (clear c y) = absurd (c i l f)
+unless-at-one n fault refusal next one r s (clear b x) (first j m c g y) = absurd (b j m g)
+unless-at-one n fault refusal next one r s (clear b x) (clear c y) = one r s x y
+
+-- what is accepted is settled by the list
+pub grown-one : (L : Listed) (value : ℕ) → One (Grown L value)
+grown-one L value r s x y = λ i. record { book = told-one L (r .book) (s .book) (x .told) (y .told) i; answer = (x .answer ∙ sym (y .answer)) i }
+
+pub outcome-one : (L : Listed) (k : Book) (q : Request) → One (Outcome L k q)
+outcome-one L k (Job start due) = unless-one _ (refusal k 1) _ (unless-one _ (refusal k 2) _ (unless-one _ (refusal k 3) _ (unless-one _ (refusal k 4) _ (grown-one _ _))))
+outcome-one L k (Before a b) = unless-one _ (refusal k 5) _ (unless-one _ (refusal k 6) _ (unless-one _ (refusal k 4) _ (grown-one _ _)))
+outcome-one L k (Earlier j due) = unless-one _ (refusal k 5) _ (unless-one _ (refusal k 2) _ (unless-one _ (refusal k 3) _ (unless-one _ (refusal k 4) _ (grown-one _ _))))
+
+-- the promise of apply has one result
+pub applies-only : (k : Book) (q : Request) → Made k → One (Applies k q)
+applies-only k q m r s x y = outcome-one (m .0) k q r s (x .outcome (m .0) (m .1)) (y .outcome (m .0) (m .1))
+
+-- ---- runs
+-- what holds of the refusal, and of whatever follows, holds of the result
+pub unless-all : {A : Type 0} (P : A → Type 0) (r : A) (fault : Type 0) (refusal : A) (next : A → Type 0) → P refusal → (next r → P r) → Unless fault refusal next r → P r
+unless-all P r fault refusal next a f (refused x e) = rw e a
+unless-all P r fault refusal next a f (passed x y) = f y
+
+-- after a request the book holds the list that the answer says
+pub outcome-told : (L : Listed) (k : Book) (q : Request) (r : Applied) → Told k L → Outcome L k q r → Told (r .book) (kept L q (r .answer))
+outcome-told L k (Job s d) r t =
+    let P : Applied → Type 0 = λ x. Told (x .book) (kept L (Job s d) (x .answer)) in
+    unless-all P r _ (refusal k 1) _ t (unless-all P r _ (refusal k 2) _ t (unless-all P r _ (refusal k 3) _ t (unless-all P r _ (refusal k 4) _ t (λ g. rw (g .answer) (g .told)))))
+outcome-told L k (Before a b) r t =
+    let P : Applied → Type 0 = λ x. Told (x .book) (kept L (Before a b) (x .answer)) in
+    unless-all P r _ (refusal k 5) _ t (unless-all P r _ (refusal k 6) _ t (unless-all P r _ (refusal k 4) _ t (λ g. rw (g .answer) (g .told))))
+outcome-told L k (Earlier j d) r t =
+    let P : Applied → Type 0 = λ x. Told (x .book) (kept L (Earlier j d) (x .answer)) in
+    unless-all P r _ (refusal k 5) _ t (unless-all P r _ (refusal k 2) _ t (unless-all P r _ (refusal k 3) _ t (unless-all P r _ (refusal k 4) _ t (λ g. rw (g .answer) (g .told)))))
+
+pub outcomes-made : (k : Book) (q : Request) (r : Applied) → Made k → Outcomes k q r → Made (r .book)
+outcomes-made k q r m x = (kept (m .0) q (r .answer), outcome-told (m .0) k q r (m .1) (x (m .0) (m .1)))
+
+pub applies-by : (k : Book) (q : Request) (r : Applied) → Made k → Outcomes k q r → Applies k q r
+applies-by k q r m x = record { outcome = x; made = outcomes-made k q r m x }
+
+-- a run holds the list of what it accepted, and leaves one book
+pub run-told : (L : Listed) (k : Book) → Run L k → Told k L
+run-told L k (opened k′ t) = t
+run-told L k (asked M k′ q r run x) = outcome-told M k′ q r (run-told M k′ run) (x .outcome M (run-told M k′ run))
+
+pub run-one : (L : Listed) (k b : Book) → Run L k → Run L b → k ≡ b
+run-one L k b x y = told-one L k b (run-told L k x) (run-told L b y)

@@ -1,0 +1,52 @@
+-- `planner::book::apply` meets its contract.
+-- Assumes nothing.
+use Rattle.planner.proofs.Once.{applies-by}
+use borrow.Author.Needs.{needs}
+use Rattle.planner.proofs.book.apply.Statement.{statement}
+use Rattle.planner.proofs.book.apply.Tie as tie
+use Rattle.planner.proofs.book.apply.Reads as reads
+use Rattle.planner.proofs.book.apply.Lts as lts
+use Rattle.planner.proofs.book.add_job.Reads as add-job-reads
+use Rattle.planner.proofs.book.add_order.Reads as add-order-reads
+use Rattle.planner.proofs.book.draw_in.Reads as draw-in-reads
+
+enum-known-request : tie.Need-enum-known-request
+enum-known-request c = search needs
+
+add-job-requires : tie.Need-add-job-requires
+add-job-requires c κs = search needs
+
+enum-known-request-2 : tie.Need-enum-known-request-2
+enum-known-request-2 c = search needs
+
+add-order-requires : tie.Need-add-order-requires
+add-order-requires c κs = search needs
+
+enum-known-request-3 : tie.Need-enum-known-request-3
+enum-known-request-3 c = search needs
+
+draw-in-requires : tie.Need-draw-in-requires
+draw-in-requires c κs = search needs
+
+returns : tie.Need-returns
+returns c = rw (c .before .before .request .given .1) (applies-by _ _ _ (c .before .before .before .before .pre) (c .add-job .ensures))
+
+returns-2 : tie.Need-returns-2
+returns-2 c = rw (c .before .before .request2 .given .1) (applies-by _ _ _ (c .before .before .before .before .pre) (c .add-order .ensures))
+
+returns-3 : tie.Need-returns-3
+returns-3 c = rw (c .before .before .request3 .given .1) (applies-by _ _ _ (c .before .before .before .before .pre) (c .draw-in .ensures))
+
+pub apply-spec : {M : Type 1} → statement M
+apply-spec =
+    tie.close
+    (tie.spec
+    enum-known-request
+    add-job-requires
+    enum-known-request-2
+    add-order-requires
+    enum-known-request-3
+    draw-in-requires
+    returns
+    returns-2
+    returns-3)

@@ -1,0 +1,17 @@
+-- `planner::sets::has` meets its contract.
+-- Assumes nothing.
+use mathlib.Core.Path.{refl}
+use Rattle.planner.specs.Sets.{has}
+use borrow.Author.Needs.{needs}
+use Rattle.planner.proofs.sets.has.Statement.{statement}
+use Rattle.planner.proofs.sets.has.Tie as tie
+
+shr-result : tie.Need-shr-result
+shr-result c = search needs
+
+returns : tie.Need-returns
+unfolding has
+returns c = refl
+
+pub has-spec : {M : Type 1} → statement M
+has-spec = tie.close (tie.spec shr-result returns)
