@@ -3,3 +3,6 @@ pub mod Chains
 pub mod Tighten
 pub mod Book
 pub mod List
+pub mod Choice
+pub mod Layout
+pub mod Planned
