@@ -2,6 +2,8 @@
 mod entry;
 mod keyed;
 mod line;
+mod lined;
+mod number;
 mod reader;
 mod word;
 
@@ -9,3 +11,5 @@ pub use entry::Record;
 pub use entry::Slip;
 pub use keyed::Keyed;
 pub use keyed::key;
+pub use lined::Lined;
+pub use lined::lines;
