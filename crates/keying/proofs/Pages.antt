@@ -8,14 +8,18 @@ use Prim.Native.Nat.{ℕ, suc, _+_, _*_, _≤_, _<_}
 use native.Mathlib.Decide.{decLe}
 use native.Mathlib.Nat.{lt-of-not-le, le-trans}
 use native.Mathlib.Omega.{arith}
-use lib.Dec.{ltb}
+use lib.Dec.{leb, ltb}
 use lib.ListN.{length, getD, drop, length-append, length-drop, drop-of-length-le}
 use lib.Seq.{drop-cons}
-use borrow.Author.Tests.{lt-ltb, le-ltb, ltb-true}
+use borrow.Author.Tests.{lt-ltb, le-ltb, ltb-true, leb-true}
 use Rattle.keying.specs.Text.{known}
 use Rattle.keying.specs.File.{number-at, record-at}
-use Rattle.keying.specs.Lines.{Contents, records, broken, contents}
+use Rattle.keying.specs.Lines.{Contents, records, broken, contents, lined, Lines}
+use Rattle.keying.specs.declared.lined.Lined.{Lined}
+use Rattle.keying.specs.declared.lined.Lined.the-variants.{Written, Short}
+use Rattle.keying.specs.Inner.Walk.{surveyed}
 use Rattle.keying.specs.declared.entry.Record.{Record}
+use Rattle.keying.specs.declared.lined.Survey.the-variants.{Records, Broken}
 
 -- the walk stands at an offset, past the records `done`
 pub record Passed (file : List ℕ) (at : ℕ) (done : List Record) : Type 0 where
@@ -69,9 +73,9 @@ module _ (file : List ℕ) (at : ℕ) (done : List Record) (w : Passed file at d
 
   pub passed-next : at + 6 ≤ length file → length done < 4096 → known (number-at file at) ≡ true → Passed file (at + 6) (done ++ (record-at file at ∷ []))
   passed-next h m k = record {
-      onward = sym (whole h ∙ simp (lt-ltb (length done) 4096 m, k));
-      place = simp length-append (omega (arith, w .place))
-    }
+    onward = sym (whole h ∙ simp (lt-ltb (length done) 4096 m, k));
+    place = simp length-append (omega (arith, w .place));
+  }
 
   pub passed-end : length file ≤ at → contents [] file ≡ records done
   unfolding contents
@@ -83,14 +87,19 @@ module _ (file : List ℕ) (at : ℕ) (done : List Record) (w : Passed file at d
     where
       never : {b : ℕ} → contents [] file ≡ broken b → ⊥
       never f = let z : _≡_ {A = ℕ} 0 1 = cc in omega arith
+
       sound : (h : at + 6 ≤ length file) (t : Bool) → contents [] file ≡ told file at done t → contents [] file ≡ told file at done true
       sound h true f = f
       sound h false f = absurd (never f)
+
       fits : Dec (at + 6 ≤ length file) → (at + 6 ≤ length file) × Passed file (at + 6) (done ++ (record-at file at ∷ []))
-      fits (yes h) = (h, record {
+      fits (yes h) = (
+        h,
+        record {
           onward = sym (sound h (ltb (length done) 4096 && known (number-at file at)) (whole h));
-          place = simp length-append (omega (arith, w .place))
-        })
+          place = simp length-append (omega (arith, w .place));
+        },
+      )
       fits (no f) = absurd (never (rest-broken p (lt-of-not-le f)))
 
 -- a file of whole records is six bytes for each, and has no more than 4,096
@@ -107,6 +116,7 @@ measured (a ∷ b ∷ c ∷ d ∷ x ∷ y ∷ l) done all e h = go (ltb (length 
   where
     r : Record
     r = record { mark = 256 * a + b; first = 256 * c + d; second = 256 * x + y }
+
     go : (few mark : Bool) → ltb (length done) 4096 ≡ few
         → (contents (done ++ (r ∷ [])) l ≡ records all → length (done ++ (r ∷ [])) ≤ 4096 → (length l + 6 * length (done ++ (r ∷ [])) ≡ 6 * length all) × (length all ≤ 4096))
         → cond (few && mark) (contents (done ++ (r ∷ [])) l) (broken (6 * length done)) ≡ records all
@@ -120,3 +130,31 @@ measured (a ∷ b ∷ c ∷ d ∷ x ∷ y ∷ l) done all e h = go (ltb (length 
 
 pub file-measured : (file : List ℕ) (all : List Record) → contents [] file ≡ records all → (length file ≡ 6 * length all) × (length all ≤ 4096)
 file-measured file all e = let m = measured file [] all e (omega arith) in (omega (arith, m .0), m .1)
+
+-- what a survey told
+pub sound-file : (m : Contents) (n : ℕ) → surveyed m ≡ Records n → (all : List Record) × (m ≡ records all) × (length all ≡ n)
+unfolding surveyed
+sound-file (records all) n e = (all, refl, cc)
+sound-file (broken at) n e = absurd (let z : _≡_ {A = ℕ} 0 1 = cc in omega arith)
+
+pub broken-file : (m : Contents) (at : ℕ) → surveyed m ≡ Broken at → m ≡ broken at
+unfolding surveyed
+broken-file (records all) at e = absurd (let z : _≡_ {A = ℕ} 0 1 = cc in omega arith)
+broken-file (broken b) at e = cc
+
+-- no second outcome meets the promise of `lines`
+pub lines-only : (file out : List ℕ) (r s : Lined) (a b : List ℕ) → Lines file out r a → Lines file out s b → (r ≡ s) × (a ≡ b)
+lines-only file out r s a b p q = (p .answer ∙ sym (q .answer), p .bytes ∙ sym (q .bytes))
+
+-- what is written lies within the bytes lent
+pub lines-within : (file out : List ℕ) (n : ℕ) (after : List ℕ) → Lines file out (Written n) after → n ≤ length out
+unfolding lined
+lines-within file out n after k = go (contents [] file) (k .answer)
+  where
+    go : (m : Contents) → Written n ≡ lined m out → n ≤ length out
+    go (records rs) e = fits (leb (15 * length rs) (length out)) refl e
+      where
+        fits : (t : Bool) → leb (15 * length rs) (length out) ≡ t → Written n ≡ cond t (Written (15 * length rs)) (Short (15 * length rs)) → n ≤ length out
+        fits true q e = let same : n ≡ 15 * length rs = cc in omega (arith, leb-true (15 * length rs) (length out) q)
+        fits false q e = absurd (let z : _≡_ {A = ℕ} 0 1 = cc in omega arith)
+    go (broken at) e = absurd (let z : _≡_ {A = ℕ} 0 1 = cc in omega arith)

@@ -7,6 +7,7 @@ use Prim.Native.Nat.{ℕ, _+_, _*_, _/_, _%_}
 use lib.Dec.{leb, ltb}
 use lib.ListN.{length, drop}
 use Rattle.keying.specs.Text.{known}
+use Rattle.keying.specs.File.{each}
 use Rattle.keying.specs.declared.entry.Record.{Record}
 use Rattle.keying.specs.declared.lined.Lined.{Lined}
 use Rattle.keying.specs.declared.lined.Lined.the-variants.{Written, Bad, Short}
@@ -22,9 +23,8 @@ columns n = column n 10000 ∷ column n 1000 ∷ column n 100 ∷ column n 10 �
 unfoldable pub line-bytes : Record → List ℕ
 line-bytes r = (r .mark / 256 ∷ r .mark % 256 ∷ 32 ∷ []) ++ columns (r .first) ++ (32 ∷ []) ++ columns (r .second) ++ (10 ∷ [])
 
-unfoldable pub page-bytes : List Record → List ℕ
-page-bytes [] = []
-page-bytes (r ∷ rest) = line-bytes r ++ page-bytes rest
+abbrev pub page-bytes : List Record → List ℕ
+page-bytes rs = each line-bytes rs
 
 -- the records of a file, or the offset where none stands (01, Job file; at most 4,096 records)
 pub data Contents : Type 0 where

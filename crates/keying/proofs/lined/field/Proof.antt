@@ -3,6 +3,9 @@
 use borrow.Author.Needs.{needs}
 use native.Mathlib.Omega.{arith}
 use lib.ListN.{length-set}
+use Prim.Native.Nat.{suc, _+_}
+use mathlib.Core.Path.{_≡_}
+use Rattle.keying.specs.Lines.{columns}
 use Rattle.keying.proofs.lined.field.Statement.{statement}
 use Rattle.keying.proofs.lined.field.Tie as tie
 
@@ -55,7 +58,13 @@ same-length : tie.Need-same-length
 same-length c = search needs
 
 returns : tie.Need-returns
-returns c = ?
+unfolding columns
+returns c = let at = c .before .before .before .before .before .args .at in
+    let e1 : at + 1 ≡ suc at = omega arith in
+    let e2 : at + 2 ≡ suc (suc at) = omega arith in
+    let e3 : at + 3 ≡ suc (suc (suc at)) = omega arith in
+    let e4 : at + 4 ≡ suc (suc (suc (suc at))) = omega arith in
+    rw (c .before .before .before .digit .ensures, c .before .before .digit2 .ensures, c .before .digit3 .ensures, c .digit4 .ensures, e1, e2, e3, e4)
 
 pub field-spec : {M : Type 1} → statement M
 field-spec =

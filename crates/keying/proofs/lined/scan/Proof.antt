@@ -71,8 +71,7 @@ loop-again : tie.Need-loop-again Inv-loop μ-loop
 loop-again c = let l = c .before .before .before .before .before .before in
     let w = l .loop .inv in
     let file = l .before .before .args .file .now in
-    let known-here = ap known (sym (c .before .before .at .ensures)) ∙ sym (c .before .is-known .ensures) ∙ not-false _ (c .if3 .left) in
-    (
+    let known-here = ap known (sym (c .before .before .at .ensures)) ∙ sym (c .before .is-known .ensures) ∙ not-false _ (c .if3 .left) in (
       omega arith,
       w .1 ++ (record-at file (l .loop .at) ∷ []),
       passed-next file (l .loop .at) (w .1) (w .2) (omega arith) (omega arith) known-here,
