@@ -1,4 +1,4 @@
-// Keyed text in, a job file out: lines such as `JB 0 4` become the six-byte records of document 01.
+// Keyed text and job files: lines such as `JB 0 4` become the six-byte records of document 01, and records become lines.
 mod entry;
 mod keyed;
 mod line;
