@@ -5,3 +5,7 @@ pub mod Tables
 pub mod Early
 pub mod Lower
 pub mod Book
+pub mod Choice
+pub mod Layout
+pub mod Planned
+pub mod List
