@@ -1,0 +1,3 @@
+-- Laws that the proofs of the functions cite.
+pub mod Put
+pub mod Decimal

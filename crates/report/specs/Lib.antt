@@ -1,0 +1,3 @@
+-- What the listing says, in the order to read it. "01" is the scope.
+pub mod Text
+pub mod Inner

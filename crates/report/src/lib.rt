@@ -1,0 +1,2 @@
+// The listing of a job file.
+mod text;
