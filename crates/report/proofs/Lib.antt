@@ -1,3 +1,4 @@
 -- Laws that the proofs of the functions cite.
 pub mod Put
 pub mod Decimal
+pub mod Each

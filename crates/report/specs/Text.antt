@@ -22,11 +22,12 @@ unfoldable pub decimal : ℕ → List ℕ
 unfolding digits
 decimal n = digits (suc n) n
 
--- a word and a number behind it
-abbrev pub labelled : List ℕ → ℕ → List ℕ
-labelled label n = label ++ decimal n
+-- texts one behind the other
+abbrev pub joined : List (List ℕ) → List ℕ
+joined [] = []
+joined (text ∷ more) = text ++ joined more
 
--- one text after the other: those of 0, 1, 2.. below n
+-- the texts of 0, 1, 2.. below n, one behind the other
 unfoldable pub each : ℕ → (ℕ → List ℕ) → List ℕ
 each zero text = []
 each (suc n) text = each n text ++ text n

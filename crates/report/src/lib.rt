@@ -1,2 +1,3 @@
 // The listing of a job file.
+mod line;
 mod text;
