@@ -22,17 +22,27 @@ longer text (suc n) i h =
     (λ below. omega (arith, longer text n i below, length-append (each n text) (text n)))
     (le-or-lt n i)
 
-pub each-none : (text : ℕ → List ℕ) (out : List ℕ) (at n : ℕ) → Room (each n text) at out → Puts (each 0 text) at out out at
-unfolding each
-each-none text out at n h = puts-none out at (omega (arith, h .fits))
+-- a loop that writes the texts of 0 to n has passed i of them
+pub record Passed (text : ℕ → List ℕ) (n at : ℕ) (old : List ℕ) (i : ℕ) (new : List ℕ) (next : ℕ) : Type 0 where
+  pub within : i ≤ n
+  pub room : Room (each n text) at old
+  pub puts : Puts (each i text) at old new next
 
-module _ (text : ℕ → List ℕ) (i : ℕ) {a b : List ℕ} {at m : ℕ} (p : Puts (each i text) at a b m) where
-  pub each-room : (n : ℕ) → i < n → Room (each n text) at a → Room (text i) m b
-  each-room n h r = record { fits = omega (arith, r .fits, longer text n i h, p .behind, puts-length p) }
-
-  pub each-more : {c : List ℕ} {next : ℕ} → Puts (text i) m b c next → Puts (each (i + 1) text) at a c next
+module _ (text : ℕ → List ℕ) (n : ℕ) {at : ℕ} {old : List ℕ} where
+  pub none-passed : Room (each n text) at old → Passed text n at old 0 old at
   unfolding each
-  each-more q = rw add-one (puts-then p q)
+  none-passed h = record { within = omega arith; room = h; puts = puts-none old at (omega (arith, h .fits)) }
+
+module _ {text : ℕ → List ℕ} {n at i next : ℕ} {old new : List ℕ} (p : Passed text n at old i new next) where
+  pub room-next : i < n → Room (text i) next new
+  room-next h = record { fits = omega (arith, p .room .fits, longer text n i h, p .puts .behind, puts-length (p .puts)) }
+
+  pub one-passed : {new′ : List ℕ} {next′ : ℕ} → i < n → Puts (text i) next new new′ next′ → Passed text n at old (i + 1) new′ next′
+  unfolding each
+  one-passed h q = record { within = omega arith; room = p .room; puts = rw add-one (puts-then (p .puts) q) }
+
+  pub all-passed : n ≤ i → Puts (each n text) at old new next
+  all-passed h = let e : n ≡ i = omega (arith, p .within) in rw e (p .puts)
 
 shift : (n : ℕ) (text : ℕ → List ℕ) → each (suc n) text ≡ text 0 ++ each n (λ i. text (suc i))
 unfolding each

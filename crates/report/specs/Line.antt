@@ -6,9 +6,10 @@ use Prim.Native.Nat.{ℕ}
 use lib.Dec.{eqb}
 use Rattle.report.specs.Text.{word, decimal, joined}
 
--- "a line for each refused request: record counted from 0, number"
+-- "a line for each refused request: record counted from 0, number"; 0 is the number of no refusal, and gives no line
 abbrev pub refused-line : ℕ → ℕ → List ℕ
-refused-line place number = joined (word "record " ∷ decimal place ∷ word " refused " ∷ decimal number ∷ word "\n" ∷ [])
+refused-line place number =
+    cond (eqb number 0) [] (joined (word "record " ∷ decimal place ∷ word " refused " ∷ decimal number ∷ word "\n" ∷ []))
 
 -- "A stop by 10 or 11 prints `stopped at B refused R` (B the offset)"
 abbrev pub stopped-line : ℕ → ℕ → List ℕ

@@ -1,3 +1,4 @@
 // The listing of a job file.
 mod line;
+mod lines;
 mod text;

@@ -3,11 +3,14 @@ use crate::text;
 ghost use Rattle.report.specs.Line.{refused-line, stopped-line, too-long-line, jobs-line, slot-line, job-line};
 ghost use Rattle.report.specs.Inner.Put.{Room, Puts};
 
-pub fn refused(out: &mut [u8], at: usize, place: usize, number: usize) -> usize
+pub fn refused(out: &mut [u8], at: usize, place: usize, number: u8) -> usize
     requires { ⌜ Room (refused-line place number) at (now out) ⌝ }
     ensures { λ r. ⌜ Puts (refused-line place number) at (now (out .entry)) (now (out .exit)) r ⌝ }
 {
-    let values = [place, number];
+    if number == 0 {
+        return at;
+    }
+    let values = [place, number as usize];
     text::fill(out, at, b"record \x00 refused \x01\n", &values)
 }
 

@@ -26,7 +26,6 @@ number-at t = and 1 number-kinds.ps (is 1 number-kinds.ps μ-number t) number.Pr
 abbrev number-below : ℕ → In 1 number-kinds.ps
 number-below t = and 1 number-kinds.ps (falls 1 number-kinds.ps _<_ μ-number t) number.Pre
 
--- src/text.rt:24:9
 number-number-requires :
     (t : ℕ) →
     number-lts.Need-number-requires (number-below t, number.Post) (number-at t) number.Post
@@ -51,28 +50,23 @@ number-cast-out :
     (t : ℕ) → number-lts.Need-cast-out (number-below t, number.Post) (number-at t) number.Post
 number-cast-out t c = omega arith
 
--- src/text.rt:26:17
 number-add-out :
     (t : ℕ) → number-lts.Need-add-out (number-below t, number.Post) (number-at t) number.Post
 number-add-out t c = omega arith
 
--- src/text.rt:26:5
 number-slice-write-out :
     (t : ℕ) →
     number-lts.Need-slice-write-out (number-below t, number.Post) (number-at t) number.Post
 number-slice-write-out t c = omega (arith, last-room t c .fits)
 
--- src/text.rt:27:5
 number-add-result :
     (t : ℕ) → number-lts.Need-add-result (number-below t, number.Post) (number-at t) number.Post
 number-add-result t c = omega (arith, last-room t (c .before) .fits, puts-length (leading t (c .before)))
 
--- src/text.rt:18:1
 number-same-length :
     (t : ℕ) → number-lts.Need-same-length (number-below t, number.Post) (number-at t) number.Post
 number-same-length t c = simp length-set (puts-length (leading t (c .before)))
 
--- src/text.rt:18:1
 number-returns :
     (t : ℕ) → number-lts.Need-returns (number-below t, number.Post) (number-at t) number.Post
 number-returns t c = rw (decimal-last (c .before .before .before .args .n)) (puts-then (leading t (c .before)) (puts-byte _ _ _ (number-slice-write-out t (c .before))))
