@@ -56,23 +56,24 @@ holds-one m L J K times other h k i l =
     let r : Renumbered K J (λ i. i) (λ i. i) = reads-one L K J (k .reads) (h .reads) in
     let e : Earliest J (k .early) = earliest-along K J (λ i. i) (λ i. i) r (k .early) (k .early) (λ i l. refl) (k .earliest) in
     let a : Latest m J (h .early) (written L) other = latest-along m K J (λ i. i) (λ i. i) r (k .early) (h .early) (written L) (written L) other other
-        (λ i l. earliest-one J (h .early) (k .early) (h .earliest) e i (omega (arith, r .size))) (λ i l. refl) (λ i l. refl) (k .latest) in
+    (λ i l. earliest-one J (h .early) (k .early) (h .earliest) e i (omega (arith, r .size))) (λ i l. refl) (λ i l. refl) (k .latest) in
     latest-one m J (h .early) (written L) times other (h .latest) a i l
 
 -- and the same plans
 pub plan-one : (m : ℕ) (L : Listed) (J K : Jobs) (due : ℕ → ℕ) → Reads L J → Reads L K → HasPlan m J due → HasPlan m K due
 plan-one m L J K due r s p =
-    let x : Renumbered J K (λ i. i) (λ i. i) = reads-one L J K r s in
-    (p .0,
-    record {
-      room = λ t. rw (x .size) (p .1 .room t);
-      begun = λ i l. let h : i < J .size = omega (arith, x .size) in omega (arith, x .starts i h, p .1 .begun i h);
-      ordered = λ a b la lb t.
-          let ha : a < J .size = omega (arith, x .size) in
-          let hb : b < J .size = omega (arith, x .size) in
-          p .1 .ordered a b ha hb (rw (x .chains a b ha hb) at t);
-    },
-    record { ends = λ i l. p .2 .ends i (omega (arith, x .size)) })
+    let x : Renumbered J K (λ i. i) (λ i. i) = reads-one L J K r s in (
+      p .0,
+      record {
+        room = λ t. rw (x .size) (p .1 .room t);
+        begun = λ i l. let h : i < J .size = omega (arith, x .size) in omega (arith, x .starts i h, p .1 .begun i h);
+        ordered = λ a b la lb t.
+            let ha : a < J .size = omega (arith, x .size) in
+            let hb : b < J .size = omega (arith, x .size) in
+            p .1 .ordered a b ha hb (rw (x .chains a b ha hb) at t);
+      },
+      record { ends = λ i l. p .2 .ends i (omega (arith, x .size)) },
+    )
 
 -- rows that agree below n and are 0 from there on
 row-same : (n : ℕ) (x y : List ℕ) → length x ≡ 64 → length y ≡ 64 → ((i : ℕ) → i < n → getD x i 0 ≡ getD y i 0) →
@@ -90,6 +91,7 @@ digits-same x y h = has-same (x + y) x y (low x y) (high y x) (λ j l. h j)
   where
     low : (x y : ℕ) → x < 2 ^ (x + y)
     low x y = omega (arith, below-pow x, pow-mono {i = x} {j = x + y} (omega arith))
+
     high : (x y : ℕ) → x < 2 ^ (y + x)
     high x y = omega (arith, below-pow x, pow-mono {i = x} {j = y + x} (omega arith))
 
@@ -112,9 +114,9 @@ module _ (L : Listed) (b k : Book) (s : Told b L) (t : Told k L) where
       (λ j l. digits-same (getD (b .before) j 0) (getD (k .before) j 0)
       (λ i. same-test (has (getD (b .before) j 0) i) (has (getD (k .before) j 0) i)
       (λ x. let y = s .shaped .before-rest i j x in
-          t .holds .reads .before i j (omega (arith, size-same)) (omega (arith, size-same)) .1 (s .holds .reads .before i j (y .0) (y .1) .0 x))
+      t .holds .reads .before i j (omega (arith, size-same)) (omega (arith, size-same)) .1 (s .holds .reads .before i j (y .0) (y .1) .0 x))
       (λ x. let y = t .shaped .before-rest i j x in
-          s .holds .reads .before i j (omega (arith, size-same)) (omega (arith, size-same)) .1 (t .holds .reads .before i j (y .0) (y .1) .0 x))))
+      s .holds .reads .before i j (omega (arith, size-same)) (omega (arith, size-same)) .1 (t .holds .reads .before i j (y .0) (y .1) .0 x))))
 
   -- a list has one book
   pub told-one : b ≡ k

@@ -31,9 +31,10 @@ use Rattle.planner.specs.declared.book.Applied.{Applied}
 use Rattle.planner.specs.Sets.{has}
 use Rattle.planner.specs.Told.{jobs-of, latest-of, Shaped, Limited, Told, nothing-listed}
 use Rattle.planner.specs.Unless.{Unless, refused, passed}
-use Rattle.planner.specs.Outcome.{Planned, Grown, Judged}
+use Rattle.planner.specs.Outcome.{Planned, acceptance, Grown, Judged}
 use Rattle.planner.specs.Inner.Book.{Ready, Tight, Settled, none, fits, with-latest}
 use Rattle.planner.specs.Inner.Chains.{Links}
+use Rattle.planner.specs.Inner.Tighten.{Tightens}
 use Rattle.planner.proofs.Same.{plan-one}
 
 pub zeros : (n i : ℕ) → _≡_ {A = ℕ} (getD (replicate n 0) i 0) 0
@@ -76,6 +77,9 @@ holds-planned L J times h =
 pub told-judged : (L : Listed) (value : ℕ) (k : Book) (r : Applied) → r .answer ≡ Accepted value → Told (r .book) L → Judged L value k r
 told-judged L value k r e t = passed (λ no. no (holds-planned L (jobs-of (r .book)) (latest-of (r .book)) (t .holds))) (record { answer = e; told = t })
 
+pub accepted-judged : (L : Listed) (value : ℕ) (k next : Book) (r : Applied) → r ≡ acceptance next value → Told next L → Judged L value k r
+accepted-judged L value k next r e t = rw e (told-judged L value k _ refl t)
+
 -- the enlarged list L, and the grown book that the code tightens for it
 pub record Grows (L : Listed) (grown : Book) : Type 0 where
   pub shaped : Shaped grown
@@ -84,11 +88,27 @@ pub record Grows (L : Listed) (grown : Book) : Type 0 where
   pub loopless : Looped L → ⊥
   pub early : ℕ → ℕ
   pub earliest : Earliest (jobs-of grown) early
+  pub late : (i : ℕ) → i < grown .size → latest-of grown i ≤ 4096
   pub holds : (row : ℕ → ℕ) → Latest 2 (jobs-of grown) early (latest-of grown) row → Holds 2 L (jobs-of grown) row
   pub plans : HasPlan 2 (jobs-of grown) (written L) → HasPlan 2 (jobs-of grown) (latest-of grown)
 
 pub grows-ready : (L : Listed) (grown : Book) → Grows L grown → Ready grown
-grows-ready L grown g = record { shaped = g .shaped; closed = reads-closed L (jobs-of grown) (g .reads); loopless = reads-loopless L (jobs-of grown) (g .reads) (g .loopless) }
+grows-ready L grown g = record {
+  shaped = g .shaped;
+  rows = record {
+    few = g .shaped .few;
+    long = g .shaped .latests;
+    early = λ i l. omega (arith, g .reads .start i l, g .limited .start i (omega (arith, g .reads .size)));
+    late = g .late;
+    closed = reads-closed L (jobs-of grown) (g .reads);
+    loopless = reads-loopless L (jobs-of grown) (g .reads) (g .loopless);
+    held = g .shaped .before-rest;
+  };
+}
+
+-- a row that the engine gave back is taken
+pub tightens-tight : (k : Book) (row : List ℕ) → Shaped k → Tightens (k .size) (k .start) (k .before) (k .latest) row true → Tight k row
+tightens-tight k row s t = record { size = t .length; rest = λ i l. t .rest refl i l ∙ s .latest-rest i l; latest = t .latest refl }
 
 pub settled-judged : (L : Listed) (k grown : Book) (value : ℕ) (r : Applied) → Grows L grown → Settled k grown value r → Judged L value k r
 settled-judged L k grown value r g (none x e) = refused (λ p. x (g .plans (plan-one 2 L (p .0) (jobs-of grown) (written L) (p .1) (g .reads) (p .2)))) e
@@ -118,6 +138,9 @@ set-put l k v h = fun-ext (λ i. go i (le-or-lt (length l) i))
 module _ (L : Listed) (k : Book) (t : Told k L) where
   pub size-is : k .size ≡ length (L .starts)
   size-is = t .holds .reads .size
+
+  latest-limit : (i : ℕ) → i < k .size → latest-of k i ≤ 4096
+  latest-limit i l = omega (arith, t .holds .latest .beneath i l, t .limited .deadline i (omega (arith, size-is)))
 
   -- a new job
   module _ (s d : ℕ) (room : k .size < 64) (low : s ≤ 4095) (high : d ≤ 4096) where
@@ -173,6 +196,7 @@ module _ (L : Listed) (k : Book) (t : Told k L) where
       loopless = unfold with-job in (t .holds .loopless);
       early = x .0;
       earliest = x .1;
+      late = λ i l. subst (λ (row : ℕ → ℕ). row i ≤ 4096) (sym due) (put-all (λ (x y : ℕ). x < k .size + 1 → y ≤ 4096) (latest-of k) (k .size) d i (λ z. high) (λ f z. latest-limit i (omega arith)) l);
       holds = λ row a. holds-job 2 (omega arith) (omega arith) L (jobs-of k) (jobs-of added) (latest-of k) (x .0) row (t .holds) (x .1) s d added-added (rw due at a);
       plans = λ p. rw due (resume-new-job 2 (omega arith) (omega arith) (jobs-of k) (jobs-of added) (t .holds .early) (x .0) (written L) (latest-of k)
           (reads-closed (with-job L s d) (jobs-of added) reads) (t .holds .earliest) (x .1) (t .holds .latest) s d added-added .same-verdict .0
@@ -247,6 +271,7 @@ module _ (L : Listed) (k : Book) (t : Told k L) where
         loopless = order-loopless;
         early = x .0;
         earliest = x .1;
+        late = latest-limit;
         holds = λ row w. holds-order 2 (omega arith) (omega arith) L (jobs-of k) (jobs-of ordered) (latest-of k) (x .0) row (t .holds) (x .1) a b la lb apart free ordered-linked w;
         plans = unfold with-order written in (resume-new-order 2 (omega arith) (omega arith) (jobs-of k) (jobs-of ordered) (t .holds .early) (x .0) (written L) (latest-of k)
             (reads-closed (with-order L a b) (jobs-of ordered) reads) (t .holds .earliest) (x .1) (t .holds .latest) a b ordered-linked .same-verdict .0);
@@ -304,6 +329,7 @@ module _ (L : Listed) (k : Book) (t : Told k L) where
         loopless = unfold with-deadline in (t .holds .loopless);
         early = t .holds .early;
         earliest = t .holds .earliest;
+        late = λ i l. subst (λ (row : ℕ → ℕ). row i ≤ 4096) (sym drawn-due) (put-all (λ (x y : ℕ). x < k .size → y ≤ 4096) (latest-of k) j d i (λ z. high) (λ f z. latest-limit i z) l);
         holds = λ row a. holds-deadline 2 L (jobs-of k) (latest-of k) (t .holds) j d lj (omega arith) (omega arith) less row (rw drawn-due at a);
         plans = λ p. rw drawn-due (resume-earlier-deadline 2 (omega arith) (omega arith) (jobs-of k) (t .holds .early) (written L) (latest-of k) (reads-closed L (jobs-of k) (t .holds .reads))
             (t .holds .earliest) (t .holds .latest) j d under .same-verdict .0 (p .0, p .1, record { ends = λ i l. le-trans (p .2 .ends i l) (le-of-eq (drawn-same i l)) }));

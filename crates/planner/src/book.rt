@@ -1,9 +1,9 @@
 // A book of jobs, and requests on it.
-use schedule::JobIndex;
 use crate::chains;
 use crate::refusal::Answer;
 use crate::sets;
 use crate::tighten;
+use schedule::JobIndex;
 ghost use mathlib.Core.Path.{_≡_};
 ghost use Rattle.planner.specs.Told.{Told, Made, nothing-listed};
 ghost use Rattle.planner.specs.Outcome.{Outcomes, Applies, refusal, acceptance};

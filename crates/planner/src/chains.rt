@@ -1,13 +1,15 @@
 // Which job precedes which: row b is the set of jobs that precede job b, and the rows are closed under chains.
-use schedule::JobIndex;
 use crate::sets;
+use schedule::JobIndex;
+ghost use mathlib.Core.Path.{_≡_};
 ghost use Prim.Native.Nat.{_<_};
+ghost use lib.ListN.{length};
 ghost use Rattle.planner.specs.Inner.Chains.{Links, Joins};
 
 // Job a before job b: row b, and each row that has b, takes in a and all of row a.
 pub fn link(rows: &mut [u64; 64], a: JobIndex, b: JobIndex)
-    requires { ⌜ (a .0 < 64) × (b .0 < 64) ⌝ }
-    ensures { λ _. ⌜ Links (a .0) (b .0) (now (rows .entry)) (now (rows .exit)) ⌝ }
+    requires { ⌜ (length (now rows) ≡ 64) × (a .0 < 64) × (b .0 < 64) ⌝ }
+    ensures { λ _. ⌜ (length (now (rows .exit)) ≡ 64) × Links (a .0) (b .0) (now (rows .entry)) (now (rows .exit)) ⌝ }
 {
     let first = a.0;
     let more = sets::with(rows[first], a);

@@ -15,6 +15,7 @@ use Rattle.planner.specs.Told.{jobs-in, row-in}
 -- rows that may be tightened: at most 64 jobs, in their limits, closed under chains, without a loop
 pub record Tightenable (size : ℕ) (start before row : List ℕ) : Type 0 where
   pub few : size ≤ 64
+  pub long : length row ≡ 64
   pub early : (i : ℕ) → i < size → getD start i 0 ≤ 4095
   pub late : (i : ℕ) → i < size → getD row i 0 ≤ 4096
   pub closed : Closed (jobs-in size start before)

@@ -1,4 +1,4 @@
--- `planner::add_job` meets its contract.
+-- `planner::book::add_job` meets its contract.
 -- Assumes nothing.
 use mathlib.Core.Path.{subst}
 use mathlib.Core.Logic.{inl, inr, ⊎-elim}

@@ -1,4 +1,4 @@
--- `planner::apply` meets its contract.
+-- `planner::book::apply` meets its contract.
 -- Assumes nothing.
 use Rattle.planner.proofs.Once.{applies-by}
 use borrow.Author.Needs.{needs}

@@ -6,7 +6,6 @@ use borrow.Author.Needs.{needs}
 use Rattle.planner.proofs.sets.has.Statement.{statement}
 use Rattle.planner.proofs.sets.has.Tie as tie
 
-
 shr-result : tie.Need-shr-result
 shr-result c = search needs
 

@@ -5,12 +5,11 @@ use borrow.Author.Needs.{needs}
 use Rattle.planner.proofs.sets.with.Statement.{statement}
 use Rattle.planner.proofs.sets.with.Tie as tie
 
-
 shl-result : tie.Need-shl-result
 shl-result c = search needs
 
 returns : tie.Need-returns
-returns c j = with-has (c .before .args .set) (c .before .args .job .0) j (c .before .pre)
+returns c j = with-has (c .args .set) (c .args .job .0) j (c .pre)
 
 pub with-spec : {M : Type 1} → statement M
 with-spec = tie.close (tie.spec shl-result returns)

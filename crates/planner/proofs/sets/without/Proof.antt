@@ -5,12 +5,11 @@ use borrow.Author.Needs.{needs}
 use Rattle.planner.proofs.sets.without.Statement.{statement}
 use Rattle.planner.proofs.sets.without.Tie as tie
 
-
 shl-result : tie.Need-shl-result
 shl-result c = search needs
 
 returns : tie.Need-returns
-returns c j = without-has (c .before .args .set) (c .before .args .job .0) j (c .before .fits .set .fits) (c .before .pre)
+returns c j = without-has (c .args .set) (c .args .job .0) j (c .fits .set .fits) (c .pre)
 
 pub without-spec : {M : Type 1} → statement M
 without-spec = tie.close (tie.spec shl-result returns)
