@@ -11,7 +11,7 @@ use borrow.Author.Tests.{lt-ltb, le-ltb, eq-eqb, ne-eqb, eqb-true}
 use lib.Dec.{eqb, ltb, lit<, eqb·suc-zero, eqb·zero-suc, eqb·suc-suc}
 use lib.Bits.{bitAnd, bitOr, bitXor, and-shr, or-shr, xor-shr, and-mod, or-mod, xor-mod}
 use lib.Count.{ones, ones-cat}
-use lib.Pow.{pow-pos, pow-lt, pow-mono, mod-pow-add, shr-shr, shl-exact}
+use lib.Pow.{pow-pos, pow-lt, pow-mono, ones-lt, mod-pow-add, shr-shr, shl-exact}
 use Rattle.schedule.specs.Count.{one, count}
 use Rattle.planner.specs.Sets.{has}
 
@@ -202,3 +202,11 @@ pub built-same : (p : ℕ → Bool) (i s : ℕ) → p i ≡ false → Built p i 
 built-same p i s pi h j =
     h j ∙ skip (ltb j i) (p j) (eqb j i) (λ e. ap p (eqb-true j i e) ∙ pi)
     ∙ sym (ap (λ (b : Bool). b && p j) (ltb-more j i))
+
+-- the set of all numbers below n
+pub first-has : (n j : ℕ) → has (2 ^ n - 1) j ≡ ltb j n
+first-has n j = go (decLt j n)
+  where
+    go : Dec (j < n) → has (2 ^ n - 1) j ≡ ltb j n
+    go (yes h) = ap (λ (x : ℕ). has x j) (let e : 2 ^ n - 1 ≡ 2 ^ n - 1 - 0 = omega arith in e) ∙ not-has n 0 j (pow-pos n) h ∙ ap not (high-has 0 j (pow-pos j)) ∙ sym (lt-ltb j n h)
+    go (no h) = high-has (2 ^ n - 1) j (lt-of-lt-of-le (ones-lt n) (pow-mono {i = n} {j = j} (omega arith))) ∙ sym (le-ltb j n (omega arith))

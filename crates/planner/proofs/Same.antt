@@ -86,7 +86,7 @@ below-pow zero = omega arith
 below-pow (suc n) = rw pow-suc (omega (arith, below-pow n))
 
 -- sets with the same members are the same number
-digits-same : (x y : ℕ) → ((j : ℕ) → has x j ≡ has y j) → x ≡ y
+pub digits-same : (x y : ℕ) → ((j : ℕ) → has x j ≡ has y j) → x ≡ y
 digits-same x y h = has-same (x + y) x y (low x y) (high y x) (λ j l. h j)
   where
     low : (x y : ℕ) → x < 2 ^ (x + y)

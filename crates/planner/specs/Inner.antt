@@ -2,3 +2,6 @@
 pub mod Chains
 pub mod Tighten
 pub mod Book
+pub mod Choice
+pub mod Layout
+pub mod Planned

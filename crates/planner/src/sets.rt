@@ -2,8 +2,8 @@
 use schedule::JobIndex;
 ghost use mathlib.Core.Bool.{_&&_, _||_, not};
 ghost use mathlib.Core.Path.{_≡_};
-ghost use Prim.Native.Nat.{ℕ, _<_};
-ghost use lib.Dec.{eqb};
+ghost use Prim.Native.Nat.{ℕ, _≤_, _<_};
+ghost use lib.Dec.{eqb, ltb};
 ghost use Rattle.schedule.specs.Count.{count};
 ghost use Rattle.planner.specs.Sets.{has};
 
@@ -36,4 +36,15 @@ pub fn size(set: u64) -> usize
     ensures { λ r. ⌜ r ≡ count 64 (has set) ⌝ }
 {
     u64::count_ones(set) as usize
+}
+
+// The jobs below a number.
+pub fn below(size: usize) -> u64
+    requires { ⌜ size ≤ 64 ⌝ }
+    ensures { λ r. ⌜ ((j : ℕ) → has r j ≡ ltb j size) ⌝ }
+{
+    if size >= 64 {
+        return !0u64;
+    }
+    (1u64 << size) - 1
 }

@@ -1,0 +1,104 @@
+-- `planner::layout::serve` meets its contract.
+-- Assumes nothing.
+use mathlib.Core.Path.{_≡_, _∙_}
+use Prim.Native.Nat.{ℕ}
+use Rattle.schedule.specs.Make.{seat}
+use Rattle.planner.specs.Told.{jobs-in, row-in}
+use Rattle.planner.proofs.Serve.{first-is, idle-slot, second-is, lone-slot, full-slot}
+use borrow.Author.Needs.{needs}
+use Rattle.planner.proofs.layout.serve.Statement.{statement}
+use Rattle.planner.proofs.layout.serve.Tie as tie
+
+-- the job of a core in this slot
+abbrev seat-at : tie.Start → ℕ → ℕ
+seat-at p = seat 2 (jobs-in (p .args .size) (p .args .start .now) (p .args .before .now)) (row-in (p .args .latest .now)) 4096 (p .args .t .0)
+
+first : (p : tie.After-next-job) → p .next-job .result .0 ≡ seat-at (p .before) 0
+first p =
+    let a = p .before .args in
+    p .next-job .ensures ∙ first-is (a .size) (a .start .now) (a .latest .now) (a .before .now) (a .t .0) (a .slot .now) (a .left) (a .second) (p .before .pre)
+
+other : (q : tie.After-next-job2) → q .next-job2 .result .0 ≡ seat-at (q .before .before .before .before .before) 1
+other q =
+    let p = q .before .before .before .before in
+    let a = p .before .args in
+    q .next-job2 .ensures
+    ∙ second-is (a .size) (a .start .now) (a .latest .now) (a .before .now) (a .t .0) (a .slot .now) (a .left) (a .second) (p .before .pre)
+    (p .next-job .result .0) (q .before .without .result) (first p) (q .before .before .before .if1 .left) (q .before .without .ensures)
+
+next-job-requires : tie.Need-next-job-requires
+next-job-requires c κs = search needs
+
+returns : tie.Need-returns
+returns c =
+    let p = c .before .before in
+    let a = p .args in
+    idle-slot (a .size) (a .start .now) (a .latest .now) (a .before .now) (a .t .0) (a .slot .now) (a .left) (a .second) (p .pre)
+    (c .before .next-job .result .0) (first (c .before)) (c .if1 .taken)
+
+cast-slot : tie.Need-cast-slot
+cast-slot c = search needs
+
+mul-slot : tie.Need-mul-slot
+mul-slot c = search needs
+
+element-write-slot : tie.Need-element-write-slot
+element-write-slot c = search needs
+
+without-requires : tie.Need-without-requires
+without-requires c κs = search needs
+
+next-job-requires-2 : tie.Need-next-job-requires-2
+next-job-requires-2 c κs = search needs
+
+returns-2 : tie.Need-returns-2
+returns-2 c =
+    let q = c .before in
+    let p = q .before .before .before .before in
+    let a = p .before .args in
+    lone-slot (a .size) (a .start .now) (a .latest .now) (a .before .now) (a .t .0) (a .slot .now) (a .left) (a .second) (p .before .pre)
+    (p .next-job .result .0) (q .before .without .result) (first p) (q .before .before .before .if1 .left) (q .before .without .ensures)
+    (q .next-job2 .result .0) (other q) (c .if2 .taken)
+
+cast-slot-2 : tie.Need-cast-slot-2
+cast-slot-2 c = search needs
+
+mul-slot-2 : tie.Need-mul-slot-2
+mul-slot-2 c = search needs
+
+element-write-slot-2 : tie.Need-element-write-slot-2
+element-write-slot-2 c = search needs
+
+without-requires-2 : tie.Need-without-requires-2
+without-requires-2 c κs = search needs
+
+with-requires : tie.Need-with-requires
+with-requires c κs = search needs
+
+returns-3 : tie.Need-returns-3
+returns-3 c =
+    let q = c .before .before .before .before in
+    let p = q .before .before .before .before in
+    let a = p .before .args in
+    full-slot (a .size) (a .start .now) (a .latest .now) (a .before .now) (a .t .0) (a .slot .now) (a .left) (a .second) (p .before .pre)
+    (p .next-job .result .0) (q .before .without .result) (first p) (q .before .before .before .if1 .left) (q .before .without .ensures)
+    (q .next-job2 .result .0) (other q) (c .before .without2 .result) (c .with .result) (c .before .before .before .if2 .left) (c .before .without2 .ensures) (c .with .ensures)
+
+pub serve-spec : {M : Type 1} → statement M
+serve-spec =
+    tie.close
+    (tie.spec
+    next-job-requires
+    returns
+    cast-slot
+    mul-slot
+    element-write-slot
+    without-requires
+    next-job-requires-2
+    returns-2
+    cast-slot-2
+    mul-slot-2
+    element-write-slot-2
+    without-requires-2
+    with-requires
+    returns-3)

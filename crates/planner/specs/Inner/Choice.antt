@@ -1,0 +1,17 @@
+-- Which job can begin at a slot, by sets: `left` the jobs not placed, `undone` those not in earlier slots.
+-- Assumes nothing.
+use mathlib.Core.Bool.{Bool, _&&_}
+use mathlib.Core.List.{List}
+use Prim.Native.Nat.{ℕ}
+use lib.Bits.{bitAnd}
+use lib.Dec.{eqb, leb}
+use lib.ListN.{getD}
+use Rattle.planner.specs.Sets.{has}
+
+-- a job with its start and the set of its predecessors
+abbrev pub begins : ℕ → ℕ → ℕ → ℕ → ℕ → ℕ → Bool
+begins job start before left undone t = leb start t && has left job && eqb (bitAnd before undone) 0
+
+-- the same by rows
+abbrev pub ready-by : List ℕ → List ℕ → ℕ → ℕ → ℕ → ℕ → Bool
+ready-by start before left undone t i = begins i (getD start i 0) (getD before i 0) left undone t
