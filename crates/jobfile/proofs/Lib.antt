@@ -1,0 +1,4 @@
+pub mod Stored
+pub mod Asked
+pub mod Reading
+pub mod Spelled
