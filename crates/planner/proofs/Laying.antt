@@ -63,11 +63,15 @@ module _ (J : Jobs) (row : ℕ → ℕ) where
     last-next h f =
         let x = some-left f in
         let now : ℕ → ℕ = slots 2 J row 4096 t in
-        inr (x .0, x .1, subst (λ f. t + 1 ≤ f (x .0) + 1) (sym (slots-next J row t))
-        (⊎-elim
-        (λ p. omega (arith, p .1))
-        (λ p. ⊎-elim (λ q. omega (arith, p .1, q .1)) (λ q. omega (arith, p .1, q .1, x .2)) (put-cases now (seat 2 J row 4096 t 0) t (x .0)))
-        (put-cases (put now (seat 2 J row 4096 t 0) t) (seat 2 J row 4096 t 1) t (x .0))))
+        inr (
+          x .0,
+          x .1,
+          subst (λ f. t + 1 ≤ f (x .0) + 1) (sym (slots-next J row t))
+              (⊎-elim
+              (λ p. omega (arith, p .1))
+              (λ p. ⊎-elim (λ q. omega (arith, p .1, q .1)) (λ q. omega (arith, p .1, q .1, x .2)) (put-cases now (seat 2 J row 4096 t 0) t (x .0)))
+              (put-cases (put now (seat 2 J row 4096 t 0) t) (seat 2 J row 4096 t 1) t (x .0))),
+        )
 
     -- all are placed: the plan
     pub lays : t ≤ 4096 → left ≡ 0 → Last t → Lays J row (record { slot = slot; second = second; finish = t })
