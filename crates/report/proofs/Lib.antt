@@ -2,3 +2,5 @@
 pub mod Put
 pub mod Decimal
 pub mod Each
+pub mod Place
+pub mod Short

@@ -1,0 +1,61 @@
+-- How long a listing can be.
+-- Assumes nothing.
+use mathlib.Core.Bool.{Bool, true, false, cond, _&&_}
+use mathlib.Core.List.{List, [], _∷_, _++_}
+use mathlib.Core.Logic.{⊎-elim}
+use mathlib.Core.Path.{_≡_, refl}
+use Prim.Native.Nat.{ℕ, zero, suc, _+_, _*_, _/_, _%_, _^_, _≤_, _<_}
+use native.Mathlib.Nat.{pow-suc, suc-mul}
+use native.Mathlib.Omega.{arith}
+use lib.Dec.{eqb}
+use lib.ListN.{length, getD, length-append}
+use Rattle.schedule.proofs.Tests.{le-or-lt}
+use Rattle.report.specs.Text.{word, decimal, joined, each}
+use Rattle.report.specs.Line.{refused-line, stopped-line, jobs-line, core, slot-line, job-line}
+use Rattle.report.proofs.Decimal.{front-small, front-large, decimal-last}
+
+abbrev Short : ℕ → List ℕ → Type 0
+Short k text = length text ≤ k
+
+either : (k : ℕ) (b : Bool) (x y : List ℕ) → Short k x → Short k y → Short k (cond b x y)
+either k true x y h i = h
+either k false x y h i = i
+
+pub decimal-short : (k n : ℕ) → n < 10 ^ suc k → Short (suc k) (decimal n)
+decimal-short zero n h = rw (decimal-last n, front-small n (omega arith)) (omega arith)
+decimal-short (suc k) n h =
+    let below : n < 10 ^ suc k * 10 = rw (← pow-suc 10 (suc k)) h in
+    ⊎-elim
+    (λ (small : n ≤ 9). rw (decimal-last n, front-small n small) (omega arith))
+    (λ (large : 9 < n). rw (decimal-last n, front-large n large) (simp length-append (omega (arith, decimal-short k (n / 10) (omega arith)))))
+    (le-or-lt n 9)
+
+pub each-short : (k n : ℕ) (text : ℕ → List ℕ) → ((i : ℕ) → i < n → Short k (text i)) → length (each n text) ≤ n * k
+unfolding each
+each-short k zero text h = omega arith
+each-short k (suc n) text h =
+    omega (arith, length-append (each n text) (text n), suc-mul n k, h n (omega arith), each-short k n text (λ i l. h i (omega arith)))
+
+pub refused-short : (place number : ℕ) → place < 10000 → number < 1000 → Short 24 (refused-line place number)
+refused-short place number h i =
+    either 24 (eqb number 0) _ _ (omega arith) (simp length-append (omega (arith, decimal-short 3 place h, decimal-short 2 number i)))
+
+pub stopped-short : (offset number : ℕ) → offset < 100000 → number < 1000 → Short 29 (stopped-line offset number)
+stopped-short offset number h i = simp length-append (omega (arith, decimal-short 4 offset h, decimal-short 2 number i))
+
+pub jobs-short : (jobs slots : ℕ) → jobs < 100 → slots < 10000 → Short 19 (jobs-line jobs slots)
+jobs-short jobs slots h i = simp length-append (omega (arith, decimal-short 1 jobs h, decimal-short 3 slots i))
+
+core-short : (byte : ℕ) → byte < 1000 → Short 3 (core byte)
+core-short byte h = either 3 (eqb byte 255) _ _ (omega arith) (decimal-short 2 byte h)
+
+pub slot-short : (slot a b : ℕ) → slot < 10000 → a < 1000 → b < 1000 → Short 18 (slot-line slot a b)
+slot-short slot a b h i j =
+    either 18 (eqb a 255 && eqb b 255) _ _ (omega arith)
+    (simp length-append (omega (arith, decimal-short 3 slot h, core-short a i, core-short b j)))
+
+pub job-short : (job start latest end spare : ℕ) → job < 100 → start < 10000 → latest < 10000 → end < 10000 → spare < 10000 →
+    Short 50 (job-line job start latest end spare)
+job-short job start latest end spare a b c d e =
+    simp length-append
+    (omega (arith, decimal-short 1 job a, decimal-short 3 start b, decimal-short 3 latest c, decimal-short 3 end d, decimal-short 3 spare e))
