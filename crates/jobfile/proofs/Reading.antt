@@ -1,16 +1,13 @@
 -- One record read at an offset: what each way out shows, and that a read has one outcome.
 -- Assumes nothing.
 use mathlib.Core.List.{List}
-use mathlib.Core.Path.{_≡_, refl, sym, ap, _∙_}
-use Prim.Native.Nat.{ℕ, _+_, _<_, _≤_}
+use mathlib.Core.Path.{_≡_, sym, ap, _∙_}
+use Prim.Native.Nat.{ℕ, _+_, _≤_}
 use native.Mathlib.Omega.{arith}
 use lib.ListN.{length}
 use Rattle.planner.specs.declared.book.Book.{Book}
-use Rattle.planner.specs.declared.book.Request.{Request}
-use Rattle.planner.specs.declared.book.Applied.{Applied}
 use Rattle.planner.specs.Told.{Made}
-use Rattle.planner.specs.Unless.{refused, passed, One}
-use Rattle.planner.specs.Outcome.{Applies}
+use Rattle.planner.specs.Unless.{passed, One}
 use Rattle.planner.proofs.Once.{unless-one, applies-only}
 use Rattle.jobfile.specs.declared.record.Asked.{Asked}
 use Rattle.jobfile.specs.declared.record.Asked.the-variants.{Known, Unknown}
@@ -18,7 +15,7 @@ use Rattle.jobfile.specs.declared.reader.Event.{Event}
 use Rattle.jobfile.specs.declared.reader.Event.the-variants as event
 use Rattle.jobfile.specs.declared.reader.Step.{Step}
 use Rattle.jobfile.specs.Record.{asked-at}
-use Rattle.jobfile.specs.Read.{stays, Answers, Asks, ReadOutcome, ReadsRecord}
+use Rattle.jobfile.specs.Read.{stays, Asks, ReadOutcome, ReadsRecord}
 
 module _ (k : Book) (file : List ℕ) (at : ℕ) (m : Made k) where
   -- the end or a stop

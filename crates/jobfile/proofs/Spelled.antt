@@ -24,15 +24,15 @@ unfolding spelled
 spelled-append [] ys = refl
 spelled-append (q ∷ xs) ys = ap (λ (l : List ℕ). spell q ++ l) (spelled-append xs ys) ∙ rw append-assoc
 
+pub spell-length : (q : Request) → length (spell q) ≡ 6
+spell-length (Job start deadline) = refl
+spell-length (Before first second) = refl
+spell-length (Earlier job deadline) = refl
+
 pub spelled-length : (xs : List Request) → length (spelled xs) ≡ 6 * length xs
 unfolding spelled
 spelled-length [] = refl
-spelled-length (q ∷ xs) = length-append (spell q) (spelled xs) ∙ omega (arith, six q, spelled-length xs)
-  where
-    six : (q : Request) → length (spell q) ≡ 6
-    six (Job start deadline) = refl
-    six (Before first second) = refl
-    six (Earlier job deadline) = refl
+spelled-length (q ∷ xs) = length-append (spell q) (spelled xs) ∙ omega (arith, spell-length q, spelled-length xs)
 
 module _ {A : Type 0} (f : ℕ → List A) where
   pub gather-more : (n : ℕ) → gather (n + 1) f ≡ gather n f ++ f n

@@ -1,9 +1,9 @@
 // A whole file read into a book.
-use planner::Answer;
-use planner::Book;
 use crate::reader;
 use crate::reader::Event;
 use crate::reader::Step;
+use planner::Answer;
+use planner::Book;
 ghost use mathlib.Core.Path.{_≡_};
 ghost use Rattle.planner.specs.Answer.{number-of};
 ghost use Rattle.planner.specs.Told.{Made};
@@ -26,15 +26,15 @@ pub fn read_file(book: Book, file: &[u8], answers: &mut [u8]) -> Step
     }
     let mut held = book;
     let mut at: usize = 0;
-    let mut record: usize = 0;
+    let mut done: usize = 0;
     loop {
         let step = reader::read(held, file, at);
         let event = step.event;
         let Event::Request(answer) = event else {
             return step;
         };
-        answers[record] = number(answer);
-        record += 1;
+        answers[done] = number(answer);
+        done += 1;
         let next = step.book;
         held = next;
         at = step.at;

@@ -1,8 +1,8 @@
 // One record read at an offset.
-use planner::Answer;
-use planner::Book;
 use crate::record;
 use crate::record::Asked;
+use planner::Answer;
+use planner::Book;
 ghost use mathlib.Core.Path.{_≡_};
 ghost use Rattle.planner.specs.Told.{Made};
 ghost use Rattle.jobfile.specs.Read.{stays, ReadsRecord};

@@ -9,7 +9,9 @@ ghost use Rattle.jobfile.specs.Record.{word, word-at, record-of, asked-a
 
 // `JB`, `OR` and `TG`, as 16-bit numbers.
 pub const JB: u16 = 0x4a42;
+
 pub const OR: u16 = 0x4f52;
+
 pub const TG: u16 = 0x5447;
 
 // What a record asks.
@@ -27,10 +29,7 @@ pub fn asked_at(file: &[u8], at: usize) -> Asked
     let second = word_at(file, at + 4);
     match mark {
         JB => Asked::Known(Request::Job(first, second)),
-        OR => Asked::Known(Request::Before(
-            JobIndex(first as usize),
-            JobIndex(second as usize),
-        )),
+        OR => Asked::Known(Request::Before(JobIndex(first as usize), JobIndex(second as usize))),
         TG => Asked::Known(Request::Earlier(JobIndex(first as usize), second)),
         _ => Asked::Unknown,
     }

@@ -1,8 +1,8 @@
 // A book written out as a job file.
+use crate::record;
 use planner::Answer;
 use planner::Book;
 use schedule::JobIndex;
-use crate::record;
 ghost use mathlib.Core.Path.{_≡_};
 ghost use Prim.Native.Nat.{_+_, _*_, _≤_, _<_};
 ghost use lib.Count.{ones};

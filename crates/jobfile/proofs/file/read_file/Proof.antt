@@ -1,59 +1,56 @@
+-- `jobfile::file::read_file` meets its contract. The invariant: the numbers of the records read are stored, and what is read from here on is the rest.
+-- Assumes nothing.
+use mathlib.Core.Logic.{⊎-elim}
+use mathlib.Core.Path.{refl}
+use Prim.Native.Nat.{_-_}
+use native.Mathlib.Omega.{arith}
+use borrow.Author.Needs.{needs}
+use lib.ListN.{length}
+use Rattle.planner.specs.Unless.{refused}
+use Rattle.jobfile.specs.Inner.File.{Underway}
+use Rattle.jobfile.proofs.Whole.{underway-begins, underway-length, underway-ends, underway-less, underway-room, underway-more}
 use Rattle.jobfile.proofs.file.read_file.Statement.{statement}
 use Rattle.jobfile.proofs.file.read_file.Tie as tie
-use Rattle.jobfile.proofs.file.read_file.Reads as reads
-use Rattle.jobfile.proofs.file.read_file.Lts as lts
-use Rattle.jobfile.proofs.file.number.Reads as number-reads
-use Rattle.jobfile.proofs.reader.read.Reads as read-reads
 
 abbrev Inv-loop : tie.InvT-loop
-Inv-loop file answers₀ records held₀ at₀ record₀ answers held at «record» = ?
+Inv-loop file answers₀ records held₀ at₀ done₀ answers held at done = Underway held₀ file answers₀ answers held at done
 
 abbrev μ-loop : tie.MeasureT-loop
-μ-loop file answers₀ records held₀ at₀ record₀ answers held at «record» = ?
+μ-loop file answers₀ records held₀ at₀ done₀ answers held at done = length file - at
 
--- src/file.rt:20:13
 returns : tie.Need-returns Inv-loop μ-loop
-returns c = ?
+returns c = record { outcome = refused (c .before .if1 .taken, c .if2 .taken) refl; made = c .before .before .before .before .pre }
 
--- src/file.rt:30:5
 loop-holds : tie.Need-loop-holds Inv-loop μ-loop
-loop-holds c = ?
+loop-holds c = underway-begins _ _ _ (c .before .before .before .pre) (λ short. ⊎-elim (λ w. w .1 .left) (λ w. absurd (omega (arith, w .left))) (c .if1 .came))
 
--- src/file.rt:31:13
 read-requires : tie.Need-read-requires Inv-loop μ-loop
-read-requires c κs = ?
+read-requires c κs = c .loop .inv .made
 
--- src/file.rt:33:28
 enum-known-event : tie.Need-enum-known-event Inv-loop μ-loop
-enum-known-event c = ?
+enum-known-event c = search needs
 
--- src/file.rt:34:13
 same-length : tie.Need-same-length Inv-loop μ-loop
-same-length c = ?
+same-length c = underway-length _ _ _ _ _ _ _ (c .before .before .loop .inv)
 
--- src/file.rt:34:13
 returns-2 : tie.Need-returns-2 Inv-loop μ-loop
-returns-2 c = ?
+returns-2 c = underway-ends _ _ _ _ _ _ _ (c .before .before .loop .inv) _ (c .before .read .ensures)
+    (λ answer e. ⊎-elim (λ w. omega arith) (λ w. omega arith) (rw e at (c .match .keys2)))
 
--- src/file.rt:36:27
 number-requires : tie.Need-number-requires Inv-loop μ-loop
-number-requires c κs = ?
+number-requires c κs = search needs
 
--- src/file.rt:36:9
 slice-write-answers : tie.Need-slice-write-answers Inv-loop μ-loop
-slice-write-answers c = ?
+slice-write-answers c = underway-room _ _ _ _ _ _ _ (c .before .before .before .before .before .loop .inv) _ (c .before .before .before .before .read .ensures) _ (c .before .before .event .given .1)
 
--- src/file.rt:37:9
-add-record : tie.Need-add-record Inv-loop μ-loop
-add-record c = ?
+add-done : tie.Need-add-done Inv-loop μ-loop
+add-done c = omega (arith, underway-room _ _ _ _ _ _ _ (c .before .before .before .before .before .loop .inv) _ (c .before .before .before .before .read .ensures) _ (c .before .before .event .given .1), underway-length _ _ _ _ _ _ _ (c .before .before .before .before .before .loop .inv))
 
--- src/file.rt:30:5
 loop-less : tie.Need-loop-less Inv-loop μ-loop
-loop-less c = ?
+loop-less c = underway-less _ _ _ _ _ _ _ (c .before .before .before .before .before .before .loop .inv) _ (c .before .before .before .before .before .read .ensures) _ (c .before .before .before .event .given .1)
 
--- src/file.rt:30:5
 loop-again : tie.Need-loop-again Inv-loop μ-loop
-loop-again c = ?
+loop-again c = rw (c .before .number .ensures) (underway-more _ _ _ _ _ _ _ (c .before .before .before .before .before .before .loop .inv) _ (c .before .before .before .before .before .read .ensures) _ (c .before .before .before .event .given .1))
 
 pub read-file-spec : {M : Type 1} → statement M
 read-file-spec =
@@ -69,6 +66,6 @@ read-file-spec =
     returns-2
     number-requires
     slice-write-answers
-    add-record
+    add-done
     loop-less
     loop-again)

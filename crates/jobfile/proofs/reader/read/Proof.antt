@@ -1,3 +1,5 @@
+-- `jobfile::reader::read` meets its contract, check by check.
+-- Assumes nothing.
 use Rattle.jobfile.specs.declared.record.Asked.the-variants.{Unknown}
 use mathlib.Core.Path.{refl, sym, _∙_}
 use native.Mathlib.Omega.{arith}
@@ -6,77 +8,56 @@ use Rattle.jobfile.proofs.Reading.{stay-reads, asks-reads}
 use borrow.Author.Needs.{needs}
 use Rattle.jobfile.proofs.reader.read.Statement.{statement}
 use Rattle.jobfile.proofs.reader.read.Tie as tie
-use Rattle.jobfile.proofs.reader.read.Reads as reads
-use Rattle.jobfile.proofs.reader.read.Lts as lts
-use Rattle.jobfile.proofs.reader.stay.Reads as stay-reads
-use Rattle.jobfile.proofs.record.asked_at.Reads as asked-at-reads
-use Rattle.planner.proofs.apply.Reads as apply-reads
 
--- src/reader.rt:30:9
 stay-requires : tie.Need-stay-requires
 stay-requires c κs = search needs
 
--- src/reader.rt:30:9
 returns : tie.Need-returns
 returns c = stay-reads _ _ _ (c .before .before .before .pre) _ _ (c .stay .ensures) (refused (c .before .if1 .taken) (c .stay .ensures))
 
--- src/reader.rt:33:9
 stay-requires-2 : tie.Need-stay-requires-2
 stay-requires-2 c κs = search needs
 
--- src/reader.rt:33:9
 returns-2 : tie.Need-returns-2
 returns-2 c = stay-reads _ _ _ (c .before .before .before .before .pre) _ _ (c .stay2 .ensures) (passed (λ f. omega arith) (refused (c .before .if2 .taken) (c .stay2 .ensures)))
 
--- src/reader.rt:36:9
 stay-requires-3 : tie.Need-stay-requires-3
 stay-requires-3 c κs = search needs
 
--- src/reader.rt:36:9
 returns-3 : tie.Need-returns-3
 returns-3 c = stay-reads _ _ _ (c .before .before .before .before .before .pre) _ _ (c .stay3 .ensures) (passed (λ f. omega arith) (passed (λ f. omega arith) (refused (omega arith) (c .stay3 .ensures))))
 
--- src/reader.rt:39:9
 stay-requires-4 : tie.Need-stay-requires-4
 stay-requires-4 c κs = search needs
 
--- src/reader.rt:39:9
 returns-4 : tie.Need-returns-4
 returns-4 c = stay-reads _ _ _ (c .before .before .before .before .before .before .pre) _ _ (c .stay4 .ensures) (passed (λ f. omega arith) (passed (λ f. omega arith) (refused (omega arith) (c .stay4 .ensures))))
 
--- src/reader.rt:41:9
 asked-at-requires : tie.Need-asked-at-requires
 asked-at-requires c κs = search needs
 
--- src/reader.rt:43:22
 enum-known-asked : tie.Need-enum-known-asked
 enum-known-asked c = search needs
 
--- src/reader.rt:44:17
 apply-requires : tie.Need-apply-requires
 apply-requires c κs = search needs
 
--- src/reader.rt:49:21
 add-t17 : tie.Need-add-t17
 add-t17 c = search needs
 
--- src/reader.rt:53:42
 enum-told : tie.Need-enum-told
 enum-told c = search needs
 
--- src/reader.rt:53:27
 stay-requires-5 : tie.Need-stay-requires-5
 stay-requires-5 c κs = search needs
 
--- src/reader.rt:24:1
 returns-5 : tie.Need-returns-5
-returns-5 c = 
+returns-5 c =
     asks-reads _ _ _ (c .before .before .before .before .before .before .before .before .before .before .before .pre) (omega arith) (omega arith) _ _ (sym (c .before .before .before .asked .given .1) ∙ c .before .before .before .before .before .asked-at .ensures)
     (c .before .apply .ensures .made) (record { answer = c .before .apply .result .answer; event = refl; moved = refl; applies = c .before .apply .ensures })
 
--- src/reader.rt:24:1
 returns-6 : tie.Need-returns-6
-returns-6 c = 
+returns-6 c =
     asks-reads _ _ _ (c .before .before .before .before .before .before .before .before .before .pre) (omega arith) (omega arith) _ Unknown (sym (c .before .enum-told .given .1) ∙ c .before .before .before .asked-at .ensures) (rw (c .stay5 .ensures) (c .before .before .before .before .before .before .before .before .before .pre)) (c .stay5 .ensures)
 
 pub read-spec : {M : Type 1} → statement M

@@ -1,3 +1,5 @@
+-- `jobfile::record::put_record` meets its contract: three words stored one after the other.
+-- Assumes nothing.
 use mathlib.Core.List.{List, _++_}
 use mathlib.Core.Path.{ap, _∙_}
 use Prim.Native.Nat.{ℕ, _+_}
@@ -7,35 +9,25 @@ use Rattle.jobfile.proofs.Stored.{sets-append}
 use borrow.Author.Needs.{needs}
 use Rattle.jobfile.proofs.record.put_record.Statement.{statement}
 use Rattle.jobfile.proofs.record.put_record.Tie as tie
-use Rattle.jobfile.proofs.record.put_record.Reads as reads
-use Rattle.jobfile.proofs.record.put_record.Lts as lts
-use Rattle.jobfile.proofs.record.put_word.Reads as put-word-reads
 
--- src/record.rt:58:5
 put-word-requires : tie.Need-put-word-requires
 put-word-requires c κs = search needs
 
--- src/record.rt:59:19
 add-put-word : tie.Need-add-put-word
 add-put-word c = search needs
 
--- src/record.rt:59:5
 put-word-requires-2 : tie.Need-put-word-requires-2
 put-word-requires-2 c κs = search needs
 
--- src/record.rt:60:19
 add-put-word-2 : tie.Need-add-put-word-2
 add-put-word-2 c = search needs
 
--- src/record.rt:60:5
 put-word-requires-3 : tie.Need-put-word-requires-3
 put-word-requires-3 c κs = search needs
 
--- src/record.rt:54:1
 same-length : tie.Need-same-length
 same-length c = search needs
 
--- src/record.rt:54:1
 returns : tie.Need-returns
 returns c =
     let a = c .before .before .before .before .before .before .before .before .before .before .before .before .before .args in

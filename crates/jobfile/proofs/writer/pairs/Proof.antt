@@ -1,3 +1,5 @@
+-- `jobfile::writer::pairs` meets its contract. The invariant: the sizes of the sets passed.
+-- Assumes nothing.
 use mathlib.Core.Path.{_≡_}
 use Prim.Native.Nat.{_+_, _*_, _-_, _≤_}
 use native.Mathlib.Numerals.{add-one}
@@ -9,9 +11,6 @@ use Rattle.schedule.proofs.Rows.{sum}
 use Rattle.jobfile.specs.Inner.Write.{pairs-in}
 use Rattle.jobfile.proofs.writer.pairs.Statement.{statement}
 use Rattle.jobfile.proofs.writer.pairs.Tie as tie
-use Rattle.jobfile.proofs.writer.pairs.Reads as reads
-use Rattle.jobfile.proofs.writer.pairs.Lts as lts
-use Rattle.jobfile.proofs.writer.members.Reads as members-reads
 
 abbrev Inv-loop : tie.InvT-loop
 Inv-loop size before sum₀ b₀ sum b = (b ≤ size) × (sum ≡ pairs-in b before) × (sum ≤ 64 * b)
@@ -19,36 +18,28 @@ Inv-loop size before sum₀ b₀ sum b = (b ≤ size) × (sum ≡ pairs-in b bef
 abbrev μ-loop : tie.MeasureT-loop
 μ-loop size before sum₀ b₀ sum b = size - b
 
--- src/writer.rt:36:5
 loop-holds : tie.Need-loop-holds Inv-loop μ-loop
 unfolding sum
 loop-holds c = search needs
 
--- src/writer.rt:37:24
 mul-members : tie.Need-mul-members Inv-loop μ-loop
 mul-members c = search needs
 
--- src/writer.rt:37:24
 element-copy-out-members : tie.Need-element-copy-out-members Inv-loop μ-loop
 element-copy-out-members c = search needs
 
--- src/writer.rt:37:16
 members-requires : tie.Need-members-requires Inv-loop μ-loop
 members-requires c κs = search needs
 
--- src/writer.rt:37:9
 add-sum : tie.Need-add-sum Inv-loop μ-loop
 add-sum c = search needs
 
--- src/writer.rt:36:9
 add-b : tie.Need-add-b Inv-loop μ-loop
 add-b c = search needs
 
--- src/writer.rt:36:5
 loop-less : tie.Need-loop-less Inv-loop μ-loop
 loop-less c = search needs
 
--- src/writer.rt:36:5
 loop-again : tie.Need-loop-again Inv-loop μ-loop
 unfolding sum
 loop-again c =
@@ -56,7 +47,6 @@ loop-again c =
     let more : pairs-in (p .loop .b + 1) (p .before .args .before .now) ≡ ones (getD (p .before .args .before .now) (p .loop .b) 0) + pairs-in (p .loop .b) (p .before .args .before .now) = rw add-one in
     (search needs, omega (arith, more, p .loop .inv .1, c .members .ensures .0), omega arith)
 
--- src/writer.rt:31:1
 returns : tie.Need-returns Inv-loop μ-loop
 returns c =
     let e : c .before .loop .b ≡ c .before .before .args .size = omega arith in

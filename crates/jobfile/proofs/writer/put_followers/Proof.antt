@@ -1,3 +1,5 @@
+-- `jobfile::writer::put_followers` meets its contract. The invariant: the orders of the jobs passed are stored.
+-- Assumes nothing.
 use mathlib.Core.Logic.{⊎-elim}
 use mathlib.Core.Bool.{true, false}
 use mathlib.Core.Path.{_≡_, sym, _∙_}
@@ -13,9 +15,6 @@ use Rattle.jobfile.specs.Inner.Write.{Continues}
 use Rattle.jobfile.proofs.Spelled.{continues-length, continues-none, continues-more, continues-room, order-spelled, order-none}
 use Rattle.jobfile.proofs.writer.put_followers.Statement.{statement}
 use Rattle.jobfile.proofs.writer.put_followers.Tie as tie
-use Rattle.jobfile.proofs.writer.put_followers.Reads as reads
-use Rattle.jobfile.proofs.writer.put_followers.Lts as lts
-use Rattle.jobfile.proofs.record.put_record.Reads as put-record-reads
 
 abbrev Inv-loop : tie.InvT-loop
 Inv-loop size before out₀ at a next₀ b₀ out next b = (b ≤ size) × Continues at (spelled (gather b (order-asked before a))) out₀ out next
@@ -38,61 +37,50 @@ room t =
     let h = continues-room _ _ _ _ _ _ _ (t .before .before .loop-test .taken) (p .before .before .pre .2) (p .loop .inv .1) in
     rw (order-spelled _ _ _ (held t)) at h
 
--- src/writer.rt:74:5
 loop-holds : tie.Need-loop-holds Inv-loop μ-loop
 loop-holds c = (search needs, continues-none _ _ _)
 
--- src/writer.rt:75:13
 mul-if1 : tie.Need-mul-if1 Inv-loop μ-loop
 mul-if1 c = search needs
 
--- src/writer.rt:75:13
 element-copy-out-if1 : tie.Need-element-copy-out-if1 Inv-loop μ-loop
 element-copy-out-if1 c = search needs
 
--- src/writer.rt:75:13
 shr-if1 : tie.Need-shr-if1 Inv-loop μ-loop
 shr-if1 c = search needs
 
--- src/writer.rt:76:55
 cast-put-record : tie.Need-cast-put-record Inv-loop μ-loop
 cast-put-record c = search needs
 
--- src/writer.rt:76:65
 cast-put-record-2 : tie.Need-cast-put-record-2 Inv-loop μ-loop
 cast-put-record-2 c = search needs
 
--- src/writer.rt:76:13
 put-record-requires : tie.Need-put-record-requires Inv-loop μ-loop
 put-record-requires c κs = room (c .before)
 
--- src/writer.rt:77:13
 add-next : tie.Need-add-next Inv-loop μ-loop
 add-next c = omega (arith, room (c .before .before .before .before), continues-length _ _ _ _ _ (c .before .before .before .before .before .before .before .loop .inv .1))
 
--- src/writer.rt:74:9
 add-b : tie.Need-add-b Inv-loop μ-loop
 add-b c = search needs
 
--- src/writer.rt:74:5
 loop-less : tie.Need-loop-less Inv-loop μ-loop
 loop-less c = search needs
 
--- src/writer.rt:74:5
 loop-again : tie.Need-loop-again Inv-loop μ-loop
 loop-again c =
     let p = c .before .before .before in
-    let a = p .before .before .args in
-    (search needs, continues-more _ _ _ _ _ _ _ _ (p .loop .inv .1) (⊎-elim
-      (λ w. rw (order-spelled (a .before .now) (a .job .0) (p .loop .b) (held (record { before = c .before; if1 = w .0 }))) (record { stored = w .5 ∙ w .2 .ensures; next = w .6 }))
-      (λ w. rw (order-none (a .before .now) (a .job .0) (p .loop .b) (free (record { before = c .before; if1 = w .0 }))) (record { stored = w .1; next = w .2 ∙ sym (add-zero _) }))
-      (c .if1 .came)))
+    let a = p .before .before .args in (
+      search needs,
+      continues-more _ _ _ _ _ _ _ _ (p .loop .inv .1) (⊎-elim
+          (λ w. rw (order-spelled (a .before .now) (a .job .0) (p .loop .b) (held (record { before = c .before; if1 = w .0 }))) (record { stored = rw (w .5) (w .2 .ensures); next = w .6 }))
+          (λ w. rw (order-none (a .before .now) (a .job .0) (p .loop .b) (free (record { before = c .before; if1 = w .0 }))) (record { stored = w .1; next = w .2 ∙ sym (add-zero _) }))
+          (c .if1 .came)),
+    )
 
--- src/writer.rt:68:1
 same-length : tie.Need-same-length Inv-loop μ-loop
 same-length c = continues-length _ _ _ _ _ (c .before .loop .inv .1)
 
--- src/writer.rt:68:1
 returns : tie.Need-returns Inv-loop μ-loop
 returns c =
     let e : c .before .loop .b ≡ c .before .before .before .args .size = omega arith in

@@ -1,4 +1,6 @@
-use mathlib.Core.Path.{_≡_, refl, _∙_}
+-- `jobfile::writer::put_jobs` meets its contract. The invariant: the records of the jobs passed are stored.
+-- Assumes nothing.
+use mathlib.Core.Path.{_≡_}
 use Prim.Native.Nat.{_*_, _-_, _≤_}
 use native.Mathlib.Omega.{arith}
 use borrow.Author.Needs.{needs}
@@ -7,9 +9,6 @@ use Rattle.jobfile.specs.Inner.Write.{Continues}
 use Rattle.jobfile.proofs.Spelled.{continues-length, continues-none, continues-more}
 use Rattle.jobfile.proofs.writer.put_jobs.Statement.{statement}
 use Rattle.jobfile.proofs.writer.put_jobs.Tie as tie
-use Rattle.jobfile.proofs.writer.put_jobs.Reads as reads
-use Rattle.jobfile.proofs.writer.put_jobs.Lts as lts
-use Rattle.jobfile.proofs.record.put_record.Reads as put-record-reads
 
 abbrev Inv-loop : tie.InvT-loop
 Inv-loop size start latest out₀ i₀ out i = (i ≤ size) × Continues 0 (spelled (gather i (job-asked start latest))) out₀ out (6 * i)
@@ -17,54 +16,42 @@ Inv-loop size start latest out₀ i₀ out i = (i ≤ size) × Continues 0 (spel
 abbrev μ-loop : tie.MeasureT-loop
 μ-loop size start latest out₀ i₀ out i = size - i
 
--- src/writer.rt:52:5
 loop-holds : tie.Need-loop-holds Inv-loop μ-loop
 loop-holds c = (search needs, continues-none _ _ _)
 
--- src/writer.rt:53:33
 mul-put-record : tie.Need-mul-put-record Inv-loop μ-loop
 mul-put-record c = search needs
 
--- src/writer.rt:53:52
 mul-put-record-2 : tie.Need-mul-put-record-2 Inv-loop μ-loop
 mul-put-record-2 c = search needs
 
--- src/writer.rt:53:52
 element-copy-out-put-record : tie.Need-element-copy-out-put-record Inv-loop μ-loop
 element-copy-out-put-record c = search needs
 
--- src/writer.rt:53:62
 mul-put-record-3 : tie.Need-mul-put-record-3 Inv-loop μ-loop
 mul-put-record-3 c = search needs
 
--- src/writer.rt:53:62
 element-copy-out-put-record-2 : tie.Need-element-copy-out-put-record-2 Inv-loop μ-loop
 element-copy-out-put-record-2 c = search needs
 
--- src/writer.rt:53:9
 put-record-requires : tie.Need-put-record-requires Inv-loop μ-loop
 put-record-requires c κs = omega (arith, continues-length _ _ _ _ _ (c .before .before .before .before .loop .inv .1))
 
--- src/writer.rt:52:9
 add-i : tie.Need-add-i Inv-loop μ-loop
 add-i c = search needs
 
--- src/writer.rt:52:5
 loop-less : tie.Need-loop-less Inv-loop μ-loop
 loop-less c = search needs
 
--- src/writer.rt:52:5
 loop-again : tie.Need-loop-again Inv-loop μ-loop
 unfolding spelled
 loop-again c =
     let p = c .before .before .before .before .before .before .before in
     (search needs, continues-more _ _ _ _ _ _ _ _ (p .loop .inv .1) (record { stored = c .before .before .put-record .ensures; next = omega arith }))
 
--- src/writer.rt:48:1
 same-length : tie.Need-same-length Inv-loop μ-loop
 same-length c = continues-length _ _ _ _ _ (c .before .loop .inv .1)
 
--- src/writer.rt:48:1
 returns : tie.Need-returns Inv-loop μ-loop
 returns c =
     let e : c .before .loop .i ≡ c .before .before .before .args .size = omega arith in

@@ -1,3 +1,5 @@
+-- `jobfile::writer::put_orders` meets its contract. The invariant: the orders of the jobs passed are stored.
+-- Assumes nothing.
 use mathlib.Core.Path.{_≡_}
 use Prim.Native.Nat.{_-_, _≤_}
 use native.Mathlib.Omega.{arith}
@@ -7,9 +9,6 @@ use Rattle.jobfile.specs.Inner.Write.{Continues}
 use Rattle.jobfile.proofs.Spelled.{continues-length, continues-none, continues-more, continues-room}
 use Rattle.jobfile.proofs.writer.put_orders.Statement.{statement}
 use Rattle.jobfile.proofs.writer.put_orders.Tie as tie
-use Rattle.jobfile.proofs.writer.put_orders.Reads as reads
-use Rattle.jobfile.proofs.writer.put_orders.Lts as lts
-use Rattle.jobfile.proofs.writer.put_followers.Reads as put-followers-reads
 
 abbrev Inv-loop : tie.InvT-loop
 Inv-loop size before out₀ at next₀ a₀ out next a = (a ≤ size) × Continues at (spelled (gather a (followers-asked size before))) out₀ out next
@@ -17,35 +16,28 @@ Inv-loop size before out₀ at next₀ a₀ out next a = (a ≤ size) × Continu
 abbrev μ-loop : tie.MeasureT-loop
 μ-loop size before out₀ at next₀ a₀ out next a = size - a
 
--- src/writer.rt:62:5
 loop-holds : tie.Need-loop-holds Inv-loop μ-loop
 loop-holds c = (search needs, continues-none _ _ _)
 
--- src/writer.rt:63:9
 put-followers-requires : tie.Need-put-followers-requires Inv-loop μ-loop
 put-followers-requires c κs =
     let p = c .before .before in
     (search needs, omega arith, continues-room _ _ _ _ _ _ _ (c .before .loop-test .taken) (p .before .before .pre .1) (p .loop .inv .1))
 
--- src/writer.rt:62:9
 add-a : tie.Need-add-a Inv-loop μ-loop
 add-a c = search needs
 
--- src/writer.rt:62:5
 loop-less : tie.Need-loop-less Inv-loop μ-loop
 loop-less c = search needs
 
--- src/writer.rt:62:5
 loop-again : tie.Need-loop-again Inv-loop μ-loop
 loop-again c =
     let p = c .before .before .before .before .before in
     (search needs, continues-more _ _ _ _ _ _ _ _ (p .loop .inv .1) (c .before .before .put-followers .ensures))
 
--- src/writer.rt:57:1
 same-length : tie.Need-same-length Inv-loop μ-loop
 same-length c = continues-length _ _ _ _ _ (c .before .loop .inv .1)
 
--- src/writer.rt:57:1
 returns : tie.Need-returns Inv-loop μ-loop
 returns c =
     let e : c .before .loop .a ≡ c .before .before .before .args .size = omega arith in

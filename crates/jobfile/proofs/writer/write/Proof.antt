@@ -1,47 +1,50 @@
+-- `jobfile::writer::write` meets its contract: the bytes counted are the bytes of the file.
+-- Assumes nothing.
+use mathlib.Core.Path.{_≡_, sym, ap, _∙_}
+use Prim.Native.Nat.{ℕ, _+_, _*_, _≤_}
+use native.Mathlib.Omega.{arith}
+use lib.ListN.{length}
+use Rattle.jobfile.specs.Write.{file-of}
+use Rattle.jobfile.proofs.Length.{file-length, pairs-few}
+use Rattle.jobfile.proofs.Writing.{orders-after, short-writes, long-writes}
 use borrow.Author.Needs.{needs}
 use Rattle.jobfile.proofs.writer.write.Statement.{statement}
 use Rattle.jobfile.proofs.writer.write.Tie as tie
-use Rattle.jobfile.proofs.writer.write.Reads as reads
-use Rattle.jobfile.proofs.writer.write.Lts as lts
-use Rattle.jobfile.proofs.writer.pairs.Reads as pairs-reads
-use Rattle.jobfile.proofs.writer.put_jobs.Reads as put-jobs-reads
-use Rattle.jobfile.proofs.writer.put_orders.Reads as put-orders-reads
 
--- src/writer.rt:21:30
+-- the bytes counted are the bytes of the file
+needed : (c : tie.After-pairs) → let k = c .before .before .before .before .args .t1 in 6 * (k .size + c .pairs .result) ≡ length (file-of k)
+needed c = let p = c .before .before .before .before in ap (λ (n : ℕ). 6 * (p .args .t1 .size + n)) (c .pairs .ensures) ∙ sym (file-length _ _ (p .pre .1))
+
+few : (c : tie.After-pairs) → c .before .before .before .before .args .t1 .size + c .pairs .result ≤ 4160
+few c = let p = c .before .before .before .before in omega (arith, p .pre .1 .shaped .few, pairs-few _ _ (p .pre .1), c .pairs .ensures)
+
 pairs-requires : tie.Need-pairs-requires
 pairs-requires c κs = search needs
 
--- src/writer.rt:21:23
 add-needed : tie.Need-add-needed
-add-needed c = search needs
+add-needed c = omega (arith, few c)
 
--- src/writer.rt:21:18
 mul-needed : tie.Need-mul-needed
-mul-needed c = search needs
+mul-needed c = omega (arith, few c)
 
--- src/writer.rt:23:9
 returns : tie.Need-returns
-returns c = ?
+returns c = short-writes _ _ _ (needed (c .before)) (c .if1 .taken)
 
--- src/writer.rt:25:5
 put-jobs-requires : tie.Need-put-jobs-requires
 put-jobs-requires c κs = search needs
 
--- src/writer.rt:26:41
 mul-put-orders : tie.Need-mul-put-orders
 mul-put-orders c = search needs
 
--- src/writer.rt:26:5
 put-orders-requires : tie.Need-put-orders-requires
-put-orders-requires c κs = search needs
+put-orders-requires c κs =
+    (search needs, omega (arith, needed (c .before .before .before .before .before .before .before .before .before .before .before), orders-after (c .before .before .before .before .before .before .before .before .before .before .before .before .before .before .before .args .t1), c .before .before .before .before .before .put-jobs .kept .1 .1 .1 .0))
 
--- src/writer.rt:16:1
 same-length : tie.Need-same-length
 same-length c = search needs
 
--- src/writer.rt:16:1
 returns-2 : tie.Need-returns-2
-returns-2 c = ?
+returns-2 c = long-writes _ _ _ (needed (c .before .before .before .before .before .before .before .before .before .before .before .before .before .before)) _ _ (c .before .before .before .before .before .before .before .before .before .before .before .before .before .if1 .left) (c .before .before .before .before .before .before .before .before .put-jobs .ensures) (c .before .before .put-orders .ensures)
 
 pub write-spec : {M : Type 1} → statement M
 write-spec =
