@@ -1,4 +1,4 @@
--- A walk that keeps the best job so far and its latest time makes the choice.
+-- A walk that keeps the best job so far and its latest time makes the choice; one that keeps the first start so far finds it.
 -- Assumes nothing.
 use mathlib.Core.Bool.{Bool, true, false, cond, not, _&&_}
 use mathlib.Core.Logic.{_⊎_, inl, inr}
@@ -6,10 +6,12 @@ use mathlib.Core.Path.{_≡_, refl, sym, ap, _∙_}
 use Prim.Native.Nat.{ℕ, suc, _+_, _≤_, _<_}
 use native.Mathlib.Numerals.{add-one}
 use native.Mathlib.Omega.{arith}
+use borrow.Author.Count.{below-more}
 use borrow.Author.Tests.{lt-ltb, le-ltb, le-leb, lt-leb}
 use lib.Dec.{leb, ltb}
 use Rattle.schedule.specs.Make.{choose}
 use Rattle.schedule.proofs.Loop.{choose-suc}
+use Rattle.planner.specs.Inner.Choice.{Wakes}
 
 -- the choice among the numbers below n, with its key; 65536, above every key, where there is none
 pub record Found (none : ℕ) (key : ℕ → ℕ) (ok : ℕ → Bool) (n c value : ℕ) : Type 0 where
@@ -48,3 +50,15 @@ module _ (none : ℕ) (key : ℕ → ℕ) (ok : ℕ → Bool) where
         yields : ((best < n) × (least ≡ key best)) ⊎ ((best ≡ none) × (least ≡ 65536)) → (ltb best n && leb (key best) (key n)) ≡ false
         yields (inl x) = simp (lt-ltb best n (x .0), lt-leb (key best) (key n) (omega (arith, x .1)))
         yields (inr x) = simp (le-ltb best n (omega (arith, x .0)))
+
+-- ---- the first start
+module _ (start : ℕ → ℕ) (t n next : ℕ) (w : Wakes n start t next) where
+  pub wakes-keep : (t < start n → next ≤ start n) → Wakes (n + 1) start t next
+  wakes-keep h = record { later = w .later; within = w .within; none = below-more (λ i. t < start i → next ≤ start i) n (w .none) h }
+
+  pub wakes-take : t < start n → start n < next → Wakes (n + 1) start t (start n)
+  wakes-take later sooner = record {
+    later = later;
+    within = omega (arith, w .within);
+    none = below-more (λ i. t < start i → start n ≤ start i) n (λ i l h. omega (arith, w .none i l h)) (λ h. omega arith);
+  }

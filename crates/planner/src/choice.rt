@@ -6,7 +6,7 @@ ghost use mathlib.Core.Path.{_≡_};
 ghost use Prim.Native.Nat.{_≤_, _<_};
 ghost use Rattle.schedule.specs.Make.{choose};
 ghost use Rattle.planner.specs.Told.{row-in};
-ghost use Rattle.planner.specs.Inner.Choice.{begins, ready-by};
+ghost use Rattle.planner.specs.Inner.Choice.{begins, ready-by, Wakes};
 
 // Of the jobs left that can begin at t, the first by latest time, then by number; `size` for none.
 pub fn next_job<'a>(
@@ -48,6 +48,25 @@ fn ready(job: JobIndex, start: u16, before: u64, left: u64, undone: u64, t: Slot
         }
     }
     false
+}
+
+// The first start after t, 4096 if there is none.
+pub fn next_start(size: usize, start: &[u16; 64], t: SlotTime) -> SlotTime
+    requires { ⌜ (size ≤ 64) × (t .0 < 4096) ⌝ }
+    ensures { λ r. ⌜ Wakes size (row-in (now (start .entry))) (t .0) (r .0) ⌝ }
+{
+    let mut next: usize = 4096;
+    let mut i: usize = 0;
+    while i < size {
+        let begin = wide(start[i]);
+        if begin > t.0 {
+            if begin < next {
+                next = begin;
+            }
+        }
+        i += 1;
+    }
+    SlotTime(next)
 }
 
 // A time as a machine word.

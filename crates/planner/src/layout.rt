@@ -2,9 +2,8 @@
 use crate::choice;
 use crate::sets;
 use schedule::SlotTime;
-ghost use Prim.Native.Nat.{_+_};
 ghost use Rattle.planner.specs.Told.{jobs-in, row-in};
-ghost use Rattle.planner.specs.Inner.Layout.{Layable, Serving, Laid, Lays};
+ghost use Rattle.planner.specs.Inner.Layout.{Layable, Serving, Serves, Lays};
 
 // Each job's slot, the jobs on core 1, and the finishing time.
 pub struct Layout {
@@ -13,10 +12,11 @@ pub struct Layout {
     pub finish: usize,
 }
 
-// The jobs not yet placed, and of those placed the jobs on core 1.
+// The jobs not yet placed, of those placed the jobs on core 1, and the next slot to serve.
 pub struct Served {
     pub left: u64,
     pub second: u64,
+    pub next: SlotTime,
 }
 
 // Slot after slot until every job is placed.
@@ -46,7 +46,7 @@ pub fn lay_out<'a>(
         );
         left = served.left;
         second = served.second;
-        t += 1;
+        t = served.next.0;
     }
     Layout {
         slot: slot,
@@ -55,7 +55,7 @@ pub fn lay_out<'a>(
     }
 }
 
-// One slot: core 0 and then core 1 takes a job. What goes to core 0 is still undone for core 1.
+// One slot: core 0 and then core 1 takes a job. What goes to core 0 is still undone for core 1. A slot with no job ends where a job starts.
 fn serve<'a>(
     size: usize,
     start: &'a [u16; 64],
@@ -67,7 +67,7 @@ fn serve<'a>(
     t: SlotTime,
 ) -> Served
     requires { ⌜ Serving (jobs-in size (now start) (now before)) (row-in (now latest)) (t .0) (now slot) left second ⌝ }
-    ensures { λ r. ⌜ Laid (jobs-in size (now (start .entry)) (now (before .entry))) (row-in (now (latest .entry))) (t .0 + 1) (now (slot .exit)) (r .left) (r .second) ⌝ }
+    ensures { λ r. ⌜ Serves (jobs-in size (now (start .entry)) (now (before .entry))) (row-in (now (latest .entry))) (t .0) (now (slot .exit)) r ⌝ }
 {
     let first = choice::next_job(size, start, latest, before, left, left, t);
     let a = first.0;
@@ -75,8 +75,10 @@ fn serve<'a>(
         return Served {
             left: left,
             second: second,
+            next: choice::next_start(size, start, t),
         };
     }
+    let next = SlotTime(t.0 + 1);
     slot[a] = t.0 as u16;
     let rest = sets::without(left, first);
     let other = choice::next_job(size, start, latest, before, rest, left, t);
@@ -85,11 +87,13 @@ fn serve<'a>(
         return Served {
             left: rest,
             second: second,
+            next: next,
         };
     }
     slot[b] = t.0 as u16;
     Served {
         left: sets::without(rest, other),
         second: sets::with(second, other),
+        next: next,
     }
 }

@@ -3,13 +3,14 @@
 use mathlib.Core.Bool.{Bool, _&&_}
 use mathlib.Core.List.{List}
 use mathlib.Core.Path.{_≡_}
-use Prim.Native.Nat.{ℕ, _≤_, _<_}
+use Prim.Native.Nat.{ℕ, _+_, _≤_, _<_}
 use lib.Dec.{T, eqb, leb, ltb}
 use lib.ListN.{length, getD}
 use Rattle.schedule.specs.Jobs.{Jobs}
 use Rattle.schedule.specs.Plan.{finish}
 use Rattle.schedule.specs.Make.{slots, seat}
 use Rattle.planner.specs.declared.layout.Layout.{Layout}
+use Rattle.planner.specs.declared.layout.Served.{Served}
 use Rattle.planner.specs.Sets.{has}
 
 -- the plan has every job placed by slot 4096
@@ -33,11 +34,23 @@ pub record Laid (J : Jobs) (row : ℕ → ℕ) (t : ℕ) (slot : List ℕ) (left
   pub kept : Kept (J .size) (slots 2 J row 4096 t) slot left
   pub cores : (i : ℕ) → i < J .size → has second i ≡ on-second J row (slots 2 J row 4096 t) i
 
--- one slot more may be served
+-- one slot more is to be served
 pub record Serving (J : Jobs) (row : ℕ → ℕ) (t : ℕ) (slot : List ℕ) (left second : ℕ) : Type 0 where
   pub few : J .size ≤ 64
-  pub within : t < 4096
+  pub early : t < 4096
+  pub some : left ≡ 0 → ⊥
   pub laid : Laid J row t slot left second
+
+-- some job is in no slot before the last of the first t
+abbrev pub Late : Jobs → (ℕ → ℕ) → ℕ → Type 0
+Late J row t = (i : ℕ) × (i < J .size) × (t ≤ slots 2 J row 4096 t i + 1)
+
+-- the slot served, and idle ones after it
+pub record Serves (J : Jobs) (row : ℕ → ℕ) (t : ℕ) (slot : List ℕ) (r : Served) : Type 0 where
+  pub later : t < r .next .0
+  pub within : r .next .0 ≤ 4096
+  pub laid : Laid J row (r .next .0) slot (r .left) (r .second)
+  pub late : Late J row (r .next .0)
 
 -- the whole layout
 pub record Lays (J : Jobs) (row : ℕ → ℕ) (r : Layout) : Type 0 where

@@ -1,19 +1,18 @@
 -- `planner::layout::lay_out` meets its contract. The invariant: the layout of the first t slots, of which the last was not in vain.
 -- Assumes nothing.
-use mathlib.Core.Logic.{inl}
+use mathlib.Core.Logic.{_⊎_, inl, inr}
 use mathlib.Core.Path.{_≡_, refl}
 use Prim.Native.Nat.{_-_, _≤_, _<_}
 use native.Mathlib.Omega.{arith}
-use borrow.Author.Needs.{needs}
 use Rattle.planner.specs.Told.{jobs-in, row-in}
-use Rattle.planner.specs.Inner.Layout.{Laid}
-use Rattle.planner.proofs.Laying.{Last, laid-none, within, last-next, lays}
+use Rattle.planner.specs.Inner.Layout.{Laid, Late}
+use Rattle.planner.proofs.Laying.{laid-none, slot-left, lays}
 use Rattle.planner.proofs.layout.lay_out.Statement.{statement}
 use Rattle.planner.proofs.layout.lay_out.Tie as tie
 
 abbrev Inv-loop : tie.InvT-loop
 Inv-loop size start latest before slot₀ left₀ second₀ t₀ slot left second t =
-    (t ≤ 4096) × Laid (jobs-in size start before) (row-in latest) t slot left second × Last (jobs-in size start before) (row-in latest) t
+    (t ≤ 4096) × Laid (jobs-in size start before) (row-in latest) t slot left second × ((t ≡ 0) ⊎ Late (jobs-in size start before) (row-in latest) t)
 
 abbrev μ-loop : tie.MeasureT-loop
 μ-loop size start latest before slot₀ left₀ second₀ t₀ slot left second t = 4096 - t
@@ -26,40 +25,32 @@ loop-holds c =
     let a = c .before .args in
     (omega arith, laid-none (jobs-in (a .size) (a .start .now) (a .before .now)) (row-in (a .latest .now)) (c .below .result) (c .before .pre .few) (c .below .ensures), inl refl)
 
--- in a turn there is a slot left
-early : (p : tie.In-loop Inv-loop μ-loop) → p .before .loop .t < 4096
-early p =
-    let q = p .before in
-    let a = q .before .before .args in
-    within (jobs-in (a .size) (a .start .now) (a .before .now)) (row-in (a .latest .now)) (q .loop .t) (q .loop .slot) (q .loop .left) (q .loop .second)
-    (q .loop .inv .1) (q .before .before .pre) (q .loop .inv .0) (p .loop-test .taken)
-
 serve-requires : tie.Need-serve-requires Inv-loop μ-loop
-serve-requires c κs = record { few = c .before .before .before .before .pre .few; within = early (c .before); laid = c .before .before .loop .inv .1 }
-
-add-t : tie.Need-add-t Inv-loop μ-loop
-add-t c = omega (arith, early (c .before .before))
+serve-requires c κs =
+    let p = c .before in
+    let q = p .before in
+    let s = q .before .before in
+    let a = s .args in
+    record {
+      few = s .pre .few;
+      early = slot-left (jobs-in (a .size) (a .start .now) (a .before .now)) (row-in (a .latest .now)) (q .loop .t) (q .loop .slot) (q .loop .left) (q .loop .second)
+          (q .loop .inv .1) (q .loop .inv .2) (s .pre) (q .loop .inv .0) (p .loop-test .taken);
+      some = p .loop-test .taken;
+      laid = q .loop .inv .1;
+    }
 
 loop-less : tie.Need-loop-less Inv-loop μ-loop
-loop-less c = omega (arith, early (c .before .before))
+loop-less c = omega (arith, c .serve .ensures .later, c .serve .ensures .within)
 
 loop-again : tie.Need-loop-again Inv-loop μ-loop
-loop-again c =
-    let p = c .before .before in
-    let q = p .before in
-    let a = q .before .before .args in (
-      omega (arith, early p),
-      c .serve .ensures,
-      last-next (jobs-in (a .size) (a .start .now) (a .before .now)) (row-in (a .latest .now)) (q .loop .t) (q .loop .slot) (q .loop .left) (q .loop .second)
-          (q .loop .inv .1) (q .loop .inv .0) (p .loop-test .taken),
-    )
+loop-again c = (c .serve .ensures .within, c .serve .ensures .laid, inr (c .serve .ensures .late))
 
 returns : tie.Need-returns Inv-loop μ-loop
 returns c =
     let p = c .before in
     let a = p .before .before .args in
     lays (jobs-in (a .size) (a .start .now) (a .before .now)) (row-in (a .latest .now)) (p .loop .t) (p .loop .slot) (p .loop .left) (p .loop .second)
-    (p .loop .inv .1) (p .loop .inv .0) (c .loop-test .left) (p .loop .inv .2)
+    (p .loop .inv .1) (p .loop .inv .2) (p .loop .inv .0) (c .loop-test .left)
 
 pub lay-out-spec : {M : Type 1} → statement M
 lay-out-spec =
@@ -70,7 +61,6 @@ lay-out-spec =
     below-requires
     loop-holds
     serve-requires
-    add-t
     loop-less
     loop-again
     returns)

@@ -4,7 +4,7 @@ use mathlib.Core.Path.{_≡_, _∙_}
 use Prim.Native.Nat.{ℕ}
 use Rattle.schedule.specs.Make.{seat}
 use Rattle.planner.specs.Told.{jobs-in, row-in}
-use Rattle.planner.proofs.Serve.{first-is, idle-slot, second-is, lone-slot, full-slot}
+use Rattle.planner.proofs.Serve.{first-is, idle-serves, second-is, lone-serves, full-serves}
 use borrow.Author.Needs.{needs}
 use Rattle.planner.proofs.layout.serve.Statement.{statement}
 use Rattle.planner.proofs.layout.serve.Tie as tie
@@ -18,23 +18,30 @@ first p =
     let a = p .before .args in
     p .next-job .ensures ∙ first-is (a .size) (a .start .now) (a .latest .now) (a .before .now) (a .t .0) (a .slot .now) (a .left) (a .second) (p .before .pre)
 
-other : (q : tie.After-next-job2) → q .next-job2 .result .0 ≡ seat-at (q .before .before .before .before .before) 1
+other : (q : tie.After-next-job2) → q .next-job2 .result .0 ≡ seat-at (q .before .before .before .before .before .before) 1
 other q =
-    let p = q .before .before .before .before in
+    let e = q .before .before .before .before in
+    let p = e .before in
     let a = p .before .args in
     q .next-job2 .ensures
     ∙ second-is (a .size) (a .start .now) (a .latest .now) (a .before .now) (a .t .0) (a .slot .now) (a .left) (a .second) (p .before .pre)
-    (p .next-job .result .0) (q .before .without .result) (first p) (q .before .before .before .if1 .left) (q .before .without .ensures)
+    (p .next-job .result .0) (q .before .without .result) (first p) (e .if1 .left) (q .before .without .ensures)
 
 next-job-requires : tie.Need-next-job-requires
 next-job-requires c κs = search needs
 
+next-start-requires : tie.Need-next-start-requires
+next-start-requires c κs = search needs
+
 returns : tie.Need-returns
 returns c =
     let p = c .before .before in
-    let a = p .args in
-    idle-slot (a .size) (a .start .now) (a .latest .now) (a .before .now) (a .t .0) (a .slot .now) (a .left) (a .second) (p .pre)
-    (c .before .next-job .result .0) (first (c .before)) (c .if1 .taken)
+    let a = p .before .args in
+    idle-serves (a .size) (a .start .now) (a .latest .now) (a .before .now) (a .t .0) (a .slot .now) (a .left) (a .second) (p .before .pre)
+    (p .next-job .result .0) (c .next-start .result .0) (first p) (c .before .if1 .taken) (c .next-start .ensures)
+
+add-slot : tie.Need-add-slot
+add-slot c = search needs
 
 cast-slot : tie.Need-cast-slot
 cast-slot c = search needs
@@ -54,10 +61,11 @@ next-job-requires-2 c κs = search needs
 returns-2 : tie.Need-returns-2
 returns-2 c =
     let q = c .before in
-    let p = q .before .before .before .before in
+    let e = q .before .before .before .before in
+    let p = e .before in
     let a = p .before .args in
-    lone-slot (a .size) (a .start .now) (a .latest .now) (a .before .now) (a .t .0) (a .slot .now) (a .left) (a .second) (p .before .pre)
-    (p .next-job .result .0) (q .before .without .result) (first p) (q .before .before .before .if1 .left) (q .before .without .ensures)
+    lone-serves (a .size) (a .start .now) (a .latest .now) (a .before .now) (a .t .0) (a .slot .now) (a .left) (a .second) (p .before .pre)
+    (p .next-job .result .0) (q .before .without .result) (first p) (e .if1 .left) (q .before .without .ensures)
     (q .next-job2 .result .0) (other q) (c .if2 .taken)
 
 cast-slot-2 : tie.Need-cast-slot-2
@@ -78,10 +86,11 @@ with-requires c κs = search needs
 returns-3 : tie.Need-returns-3
 returns-3 c =
     let q = c .before .before .before .before in
-    let p = q .before .before .before .before in
+    let e = q .before .before .before .before in
+    let p = e .before in
     let a = p .before .args in
-    full-slot (a .size) (a .start .now) (a .latest .now) (a .before .now) (a .t .0) (a .slot .now) (a .left) (a .second) (p .before .pre)
-    (p .next-job .result .0) (q .before .without .result) (first p) (q .before .before .before .if1 .left) (q .before .without .ensures)
+    full-serves (a .size) (a .start .now) (a .latest .now) (a .before .now) (a .t .0) (a .slot .now) (a .left) (a .second) (p .before .pre)
+    (p .next-job .result .0) (q .before .without .result) (first p) (e .if1 .left) (q .before .without .ensures)
     (q .next-job2 .result .0) (other q) (c .before .without2 .result) (c .with .result) (c .before .before .before .if2 .left) (c .before .without2 .ensures) (c .with .ensures)
 
 pub serve-spec : {M : Type 1} → statement M
@@ -89,7 +98,9 @@ serve-spec =
     tie.close
     (tie.spec
     next-job-requires
+    next-start-requires
     returns
+    add-slot
     cast-slot
     mul-slot
     element-write-slot
