@@ -4,3 +4,4 @@ pub mod Decimal
 pub mod Each
 pub mod Place
 pub mod Short
+pub mod Gather

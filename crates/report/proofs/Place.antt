@@ -33,6 +33,7 @@ pub record Holding (k : Book) (finish : ℕ) (plan : List ℕ) : Type 0 where
   pub ends : finish ≡ finish-of k
   pub fits : 2 * finish ≤ length plan
   pub small : finish ≤ 4096
+  pub long : length (take (2 * finish) plan) ≡ 2 * finish
   pub bytes : take (2 * finish) plan ≡ bytes-of k
 
 pub holding : (k : Book) → Made k → (old new : List ℕ) (r : Answer) → length old ≡ 8192 → Plans k old new r →
@@ -45,5 +46,6 @@ holding k m old new r h p finish e =
       ends = same;
       fits = rw (t .1, same) (omega (arith, length-append (bytes-of k) (drop (2 * finish-of k) old), long));
       small = omega (arith, finish-fits k m);
+      long = rw (t .1, same, take-at (bytes-of k) (drop (2 * finish-of k) old) (2 * finish-of k) long) long;
       bytes = rw (t .1, same) (take-at (bytes-of k) (drop (2 * finish-of k) old) (2 * finish-of k) long);
     }

@@ -7,6 +7,7 @@ use native.Mathlib.Numerals.{add-one}
 use native.Mathlib.Omega.{arith}
 use lib.ListN.{length, take, drop, set, length-append, length-take, length-drop, take-append-drop}
 use lib.Seq.{append-snoc, set-split, take-at, drop-at, drop-drop, drop-append-add, length-take-le}
+use Rattle.report.specs.Listing.{Listing, Lists}
 use Rattle.report.specs.Inner.Put.{Room, Puts}
 
 pub puts-length : {s old new : List ℕ} {at next : ℕ} → Puts s at old new next → length new ≡ length old
@@ -58,3 +59,9 @@ module _ {s t a b : List ℕ} {at m : ℕ} (p : Puts s at a b m) where
             ∙ ap (λ (l : List ℕ). l ++ drop (at + length (s ++ t)) a) (append-assoc (take at a) s t);
         behind = omega (arith, total, q .behind);
       }
+
+-- a listing written from the first byte on
+pub lists-by : {file text old new : List ℕ} {r : ℕ} → Listing file text → Puts text 0 old new r → Lists file old new r
+lists-by {file} {text} l p =
+    let e : 0 + length text ≡ length text = omega arith in
+    record { text = text; listing = l; bytes = rw e at (p .bytes); answer = omega (arith, p .behind); within = omega (arith, p .behind, p .room .fits) }

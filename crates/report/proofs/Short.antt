@@ -12,9 +12,14 @@ use lib.ListN.{length, getD, length-append}
 use Rattle.schedule.proofs.Tests.{le-or-lt}
 use Rattle.report.specs.Text.{word, decimal, joined, each}
 use Rattle.report.specs.Line.{refused-line, stopped-line, jobs-line, core, slot-line, job-line}
+use Rattle.report.specs.Listing.{refused-lines, slot-lines, job-text, job-lines}
+use Rattle.planner.specs.declared.book.Book.{Book}
+use Rattle.planner.specs.Told.{Made}
+use Rattle.planner.proofs.Handed.{plan-is-valid}
+use Rattle.jobfile.proofs.Part.{start-low, latest-high}
 use Rattle.report.proofs.Decimal.{front-small, front-large, decimal-last}
 
-abbrev Short : ℕ → List ℕ → Type 0
+abbrev pub Short : ℕ → List ℕ → Type 0
 Short k text = length text ≤ k
 
 either : (k : ℕ) (b : Bool) (x y : List ℕ) → Short k x → Short k y → Short k (cond b x y)
@@ -40,8 +45,8 @@ pub refused-short : (place number : ℕ) → place < 10000 → number < 1000 →
 refused-short place number h i =
     either 24 (eqb number 0) _ _ (omega arith) (simp length-append (omega (arith, decimal-short 3 place h, decimal-short 2 number i)))
 
-pub stopped-short : (offset number : ℕ) → offset < 100000 → number < 1000 → Short 29 (stopped-line offset number)
-stopped-short offset number h i = simp length-append (omega (arith, decimal-short 4 offset h, decimal-short 2 number i))
+pub stopped-short : (offset number : ℕ) → offset < 2 ^ 64 → number < 256 → Short 44 (stopped-line offset number)
+stopped-short offset number h i = simp length-append (omega (arith, decimal-short 19 offset (omega arith), decimal-short 2 number (omega arith)))
 
 pub jobs-short : (jobs slots : ℕ) → jobs < 100 → slots < 10000 → Short 19 (jobs-line jobs slots)
 jobs-short jobs slots h i = simp length-append (omega (arith, decimal-short 1 jobs h, decimal-short 3 slots i))
@@ -59,3 +64,21 @@ pub job-short : (job start latest end spare : ℕ) → job < 100 → start < 100
 job-short job start latest end spare a b c d e =
     simp length-append
     (omega (arith, decimal-short 1 job a, decimal-short 3 start b, decimal-short 3 latest c, decimal-short 3 end d, decimal-short 3 spare e))
+
+pub refused-lines-short : (numbers : List ℕ) → length numbers ≤ 4096 → ((i : ℕ) → getD numbers i 0 < 256) → length (refused-lines numbers) ≤ length numbers * 24
+refused-lines-short numbers h small =
+    each-short 24 (length numbers) _ (λ i l. refused-short i (getD numbers i 0) (omega arith) (omega (arith, small i)))
+
+pub slot-lines-short : (plan : List ℕ) → length plan ≤ 8192 → ((i : ℕ) → getD plan i 0 < 256) → length (slot-lines plan) ≤ length plan / 2 * 18
+slot-lines-short plan h small =
+    each-short 18 (length plan / 2) _
+    (λ t l. slot-short t (getD plan (2 * t) 0) (getD plan (2 * t + 1) 0) (omega arith) (omega (arith, small (2 * t))) (omega (arith, small (2 * t + 1))))
+
+pub job-lines-short : (k : Book) → Made k → length (job-lines k) ≤ 3200
+job-lines-short k m =
+    let few = m .1 .shaped .few in
+    let long = each-short 50 (k .size) (job-text k) (λ i l.
+    let ends = plan-is-valid k m .1 .ends i l in
+    let late = latest-high k (m .0) (m .1) i l in
+    job-short i _ _ _ _ (omega arith) (omega (arith, start-low k (m .0) (m .1) i l)) (omega arith) (omega arith) (omega arith)) in
+    omega arith

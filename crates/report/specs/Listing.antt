@@ -5,15 +5,13 @@ use mathlib.Core.Path.{_≡_}
 use Prim.Native.Nat.{ℕ, _+_, _*_, _/_, _<_, _≤_}
 use lib.ListN.{length, getD, drop}
 use Rattle.planner.specs.declared.book.Book.{Book}
-use Rattle.planner.specs.declared.refusal.Answer.{Answer}
 use Rattle.planner.specs.Told.{Told, latest-of, nothing-listed}
 use Rattle.planner.specs.Planned.{finish-of, bytes-of, place-of}
 use Rattle.planner.specs.Unless.{Unless}
 use Rattle.jobfile.specs.declared.reader.Event.{Event}
 use Rattle.jobfile.specs.declared.reader.Event.the-variants as event
 use Rattle.jobfile.specs.declared.reader.Step.{Step}
-use Rattle.jobfile.specs.Read.{ReadsRecord}
-use Rattle.jobfile.specs.File.{Walk}
+use Rattle.jobfile.specs.File.{Pass}
 use Rattle.report.specs.Text.{each}
 use Rattle.report.specs.Line.{refused-line, stopped-line, too-long-line, jobs-line, slot-line, job-line}
 
@@ -47,11 +45,8 @@ pub record Tells (file text : List ℕ) : Type 0 where
   pub opened : Book
   pub empty : Told opened nothing-listed
   pub numbers : List ℕ
-  pub held : Book
-  pub walk : Walk file opened numbers held
   pub last : Step
-  pub reads : ReadsRecord held file (6 * length numbers) last
-  pub halts : (answer : Answer) → last .event ≡ event.Request answer → ⊥
+  pub pass : Pass file opened 0 numbers last
   pub told : text ≡ refused-lines numbers ++ stop-line (last .event) ++ book-lines (last .book)
 
 -- the listing's text: "9 prints `file refused 9` alone"
@@ -64,4 +59,4 @@ pub record Lists (file old new : List ℕ) (r : ℕ) : Type 0 where
   pub listing : Listing file text
   pub bytes : new ≡ text ++ drop (length text) old
   pub answer : r ≡ length text
-  pub within : r ≤ length new
+  pub within : r ≤ length old

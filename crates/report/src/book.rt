@@ -1,18 +1,19 @@
 // The lines of a book: jobs held and finishing time, the slots of its plan, its jobs.
+use crate::line;
+use crate::lines;
 use planner::Answer;
 use planner::Book;
 use planner::Placed;
 use schedule::JobIndex;
-use crate::line;
-use crate::lines;
-ghost use Prim.Native.Nat.{_<_};
+ghost use Prim.Native.Nat.{_+_, _≤_, _<_};
+ghost use lib.ListN.{length};
 ghost use Rattle.planner.specs.Told.{Made};
 ghost use Rattle.report.specs.Listing.{book-lines, job-lines, job-text};
 ghost use Rattle.report.specs.Inner.Put.{Room, Puts};
 
 pub fn lines(out: &mut [u8], at: usize, book: Book) -> usize
     requires { ⌜ Made book ⌝ }
-    requires { ⌜ Room (book-lines book) at (now out) ⌝ }
+    requires { ⌜ at + 76947 ≤ length (now out) ⌝ }
     ensures { λ r. ⌜ Puts (book-lines book) at (now (out .entry)) (now (out .exit)) r ⌝ }
 {
     let mut plan = [0u8; 8192];
@@ -28,7 +29,7 @@ pub fn lines(out: &mut [u8], at: usize, book: Book) -> usize
 
 fn jobs(out: &mut [u8], at: usize, book: Book) -> usize
     requires { ⌜ Made book ⌝ }
-    requires { ⌜ Room (job-lines book) at (now out) ⌝ }
+    requires { ⌜ at + 3200 ≤ length (now out) ⌝ }
     ensures { λ r. ⌜ Puts (job-lines book) at (now (out .entry)) (now (out .exit)) r ⌝ }
 {
     let size = book.size;
@@ -50,5 +51,13 @@ fn job(out: &mut [u8], at: usize, book: Book, index: JobIndex) -> usize
     let Placed::At(place) = placed else {
         return at;
     };
-    line::job(out, at, i, book.start[i] as usize, book.latest[i] as usize, place.end, place.spare)
+    line::job(
+        out,
+        at,
+        i,
+        book.start[i] as usize,
+        book.latest[i] as usize,
+        place.end,
+        place.spare,
+    )
 }

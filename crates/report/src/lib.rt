@@ -5,8 +5,10 @@ mod lines;
 mod text;
 
 use jobfile::Event;
+ghost use Prim.Native.Nat.{_+_, _≤_};
+ghost use lib.ListN.{length};
 ghost use Rattle.report.specs.Listing.{Lists, stop-line};
-ghost use Rattle.report.specs.Inner.Put.{Room, Puts};
+ghost use Rattle.report.specs.Inner.Put.{Puts};
 
 // The text at the front of the bytes lent, which are enough for any file; the answer is its length.
 pub fn listing(file: &[u8], out: &mut [u8; 196608]) -> usize
@@ -26,8 +28,8 @@ pub fn listing(file: &[u8], out: &mut [u8; 196608]) -> usize
 }
 
 fn stop(out: &mut [u8], at: usize, event: Event) -> usize
-    requires { ⌜ Room (stop-line event) at (now out) ⌝ }
-    ensures { λ r. ⌜ Puts (stop-line event) at (now (out .entry)) (now (out .exit)) r ⌝ }
+    requires { ⌜ at + 44 ≤ length (now out) ⌝ }
+    ensures { λ r. ⌜ Puts (stop-line event) at (now (out .entry)) (now (out .exit)) r × (r ≤ at + 44) ⌝ }
 {
     match event {
         Event::Request(_) => at,

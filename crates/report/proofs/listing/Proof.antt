@@ -1,58 +1,74 @@
+-- `report::listing` meets its contract: the file too long, or its records read, and then the parts one behind the other.
+-- Assumes nothing.
+use mathlib.Core.List.{_++_}
+use mathlib.Core.Path.{_≡_, refl, sym}
+use Prim.Native.Nat.{ℕ}
+use native.Mathlib.Omega.{arith}
 use borrow.Author.Needs.{needs}
+use Rattle.planner.specs.Unless.{refused, passed}
+use Rattle.report.specs.Inner.Put.{Puts}
+use Rattle.report.specs.Listing.{refused-lines, stop-line, Tells}
+use Rattle.report.proofs.Put.{puts-then, lists-by}
+use Rattle.report.proofs.Gather.{Gathered, gathered}
 use Rattle.report.proofs.listing.Statement.{statement}
 use Rattle.report.proofs.listing.Tie as tie
-use Rattle.report.proofs.listing.Reads as reads
-use Rattle.report.proofs.listing.Lts as lts
-use Rattle.jobfile.proofs.read_file.Reads as read-file-reads
-use Rattle.planner.proofs.open.Reads as open-reads
-use Rattle.report.proofs.book.lines.Reads as lines-reads
-use Rattle.report.proofs.line.too_long.Reads as too-long-reads
-use Rattle.report.proofs.lines.refused.Reads as refused-reads
-use Rattle.report.proofs.stop.Reads as stop-reads
 
--- src/lib.rt:16:9
+-- the numbers that were read
+read : (c : tie.After-numbers2) → Gathered (c .before .before .before .before .before .before .args .file .now) (c .before .before .before .«open» .result) (c .before .read-file .result) (c .before .read-file .last .1 .1 .0)
+read c = gathered _ _ _ _ _ (c .before .before .before .before .if1 .left) refl (c .numbers2 .given) (c .before .read-file .ensures)
+
+-- the lines of the refused records, and then the stop
+begun : (c : tie.After-refused) → Puts (refused-lines (read (c .before .before .before .before .before) .numbers)) 0 (c .before .before .before .before .before .before .before .before .before .before .before .args .out .now) (c .refused .last .0) (c .refused .result)
+begun c = rw (read (c .before .before .before .before .before) .front) at (c .refused .ensures .0)
+
+stopped : (c : tie.After-stop) →
+    Puts (refused-lines (read (c .before .before .before .before .before .before .before) .numbers) ++ stop-line (c .before .before .before .before .before .before .before .before .read-file .result .event)) 0 (c .before .before .before .before .before .before .before .before .before .before .before .before .before .args .out .now) (c .stop .last .0) (c .stop .result)
+stopped c = puts-then (begun (c .before .before)) (c .stop .ensures .0)
+
 too-long-requires : tie.Need-too-long-requires
 too-long-requires c κs = search needs
 
--- src/lib.rt:16:9
 returns : tie.Need-returns
-returns c = ?
+returns c = lists-by (refused (c .before .before .if1 .taken) refl) (c .too-long .ensures)
 
--- src/lib.rt:19:35
 open-requires : tie.Need-open-requires
 open-requires c κs = search needs
 
--- src/lib.rt:19:58
 slice-aggregate-read-file : tie.Need-slice-aggregate-read-file
 slice-aggregate-read-file c = search needs
 
--- src/lib.rt:19:9
 read-file-requires : tie.Need-read-file-requires
 read-file-requires c κs = search needs
 
--- src/lib.rt:23:37
 array-share-prefix-numbers : tie.Need-array-share-prefix-numbers
-array-share-prefix-numbers c = ?
+array-share-prefix-numbers c = let g = read (c .before .before .before) in omega (arith, g .few, g .count, c .before .before .before .numbers2 .given)
 
--- src/lib.rt:23:37
 slice-aggregate-refused : tie.Need-slice-aggregate-refused
-slice-aggregate-refused c = ?
+slice-aggregate-refused c = let g = read (c .before .before .before .before) in omega (arith, g .count, g .long)
 
--- src/lib.rt:23:9
 refused-requires : tie.Need-refused-requires
-refused-requires c κs = ?
+refused-requires c κs = let g = read (c .before .before .before .before) in (omega (arith, g .few, g .long), omega (arith, g .few, g .long, c .before .before .before .before .before .before .before .before .before .before .good))
 
--- src/lib.rt:24:9
 stop-requires : tie.Need-stop-requires
-stop-requires c κs = ?
+stop-requires c κs = let g = read (c .before .before .before .before .before .before) in omega (arith, g .few, g .long, c .before .refused .ensures .1, c .before .before .before .before .before .before .before .before .before .before .before .before .good)
 
--- src/lib.rt:25:5
 lines-requires : tie.Need-lines-requires
-lines-requires c κs = ?
+lines-requires c κs =
+    let g = read (c .before .before .before .before .before .before .before .before) in
+    (c .before .before .before .before .before .before .before .before .before .read-file .ensures .made, omega (arith, g .few, g .long, c .before .before .before .refused .ensures .1, c .before .stop .ensures .1, c .before .before .before .before .before .before .before .before .before .before .before .before .before .before .good))
 
--- src/lib.rt:12:1
 returns-2 : tie.Need-returns-2
-returns-2 c = ?
+returns-2 c =
+    let b = c .before .before .before .before .before .before .before .before .before .before in
+    let tells : Tells (b .before .before .before .before .before .args .file .now) _ = record {
+      opened = b .before .before .«open» .result;
+      empty = b .before .before .«open» .ensures;
+      numbers = read (c .before .before .before .before .before .before .before .before .before) .numbers;
+      last = b .read-file .result;
+      pass = read (c .before .before .before .before .before .before .before .before .before) .pass;
+      told = refl;
+    } in
+    lists-by (passed (λ over. omega (arith, b .before .before .before .if1 .left)) tells) (puts-then (stopped (c .before .before)) (c .lines .ensures))
 
 pub listing-spec : {M : Type 1} → statement M
 listing-spec =

@@ -12,12 +12,7 @@ use Rattle.planner.specs.Planned.{place-of, Places}
 use Rattle.report.proofs.Place.{place-told}
 use Rattle.report.proofs.book.job.Statement.{statement}
 use Rattle.report.proofs.book.job.Tie as tie
-use Rattle.report.proofs.book.job.Reads as reads
-use Rattle.report.proofs.book.job.Lts as lts
-use Rattle.planner.proofs.place.Reads as place-reads
-use Rattle.report.proofs.line.job.Reads as job-reads
 
--- src/book.rt:49:9
 -- the place in the enum that was returned is the job's
 same : (k : Book) (job : ℕ) (r : Placed) (p : Place) → job < k .size → Places k job r → r ≡ At p → p ≡ place-of k job
 same k job r p h x e = let f = place-told k job r h x in cc
@@ -25,15 +20,12 @@ same k job r p h x e = let f = place-told k job r h x in cc
 place-requires : tie.Need-place-requires
 place-requires c κs = search needs
 
--- src/book.rt:50:20
 enum-known-placed : tie.Need-enum-known-placed
 enum-known-placed c = search needs
 
--- src/book.rt:51:9
 enum-told : tie.Need-enum-told
 enum-told c = search needs
 
--- src/book.rt:51:9
 returns : tie.Need-returns
 returns c =
     let b = c .before .before .before .before in
@@ -41,42 +33,33 @@ returns c =
     let z : _≡_ {A = ℕ} 0 1 = cc in
     absurd (omega arith)
 
--- src/book.rt:53:27
 mul-job : tie.Need-mul-job
 mul-job c = search needs
 
--- src/book.rt:53:27
 element-copy-out-job : tie.Need-element-copy-out-job
 element-copy-out-job c = search needs
 
--- src/book.rt:53:27
 cast-job : tie.Need-cast-job
 cast-job c = search needs
 
--- src/book.rt:53:51
 mul-job-2 : tie.Need-mul-job-2
 mul-job-2 c = search needs
 
--- src/book.rt:53:51
 element-copy-out-job-2 : tie.Need-element-copy-out-job-2
 element-copy-out-job-2 c = search needs
 
--- src/book.rt:53:51
 cast-job-2 : tie.Need-cast-job-2
 cast-job-2 c = search needs
 
--- src/book.rt:53:5
 job-requires : tie.Need-job-requires
 job-requires c κs =
     let b = c .before .before .before .before .before .before .before .before in
     let e = same (b .args .t3) (b .args .index .0) _ _ (b .pre .1 .0) (c .before .before .before .before .before .before .place .ensures) (c .before .before .before .before .placed .given .1) in
     rw e (b .pre .1 .1)
 
--- src/book.rt:42:1
 same-length : tie.Need-same-length
 same-length c = search needs
 
--- src/book.rt:42:1
 returns-2 : tie.Need-returns-2
 returns-2 c =
     let b = c .before .before .before .before .before .before .before .before .before .before .before in

@@ -5,6 +5,7 @@ use native.Mathlib.Omega.{arith}
 use borrow.Author.Needs.{needs}
 use Rattle.report.specs.Listing.{job-text}
 use Rattle.report.proofs.Put.{puts-length}
+use Rattle.report.proofs.Short.{job-lines-short}
 use Rattle.report.proofs.Each.{Passed, none-passed, room-next, one-passed, all-passed}
 use Rattle.report.proofs.book.jobs.Statement.{statement}
 use Rattle.report.proofs.book.jobs.Tie as tie
@@ -16,7 +17,10 @@ abbrev μ-loop : tie.MeasureT-loop
 μ-loop out₀ at book size next₀ i₀ out next i = size - i
 
 loop-holds : tie.Need-loop-holds Inv-loop μ-loop
-loop-holds c = none-passed (job-text (c .before .args .book)) _ (c .before .pre .1)
+loop-holds c =
+    let b = c .before in
+    let short = job-lines-short (b .args .book) (b .pre .0) in
+    none-passed (job-text (b .args .book)) _ (record { fits = omega arith })
 
 job-requires : tie.Need-job-requires Inv-loop μ-loop
 job-requires c κs = (c .before .before .before .before .pre .0, (search needs, room-next (c .before .before .loop .inv) (omega arith)))

@@ -4,29 +4,25 @@ use mathlib.Core.Path.{_≡_, refl, sym, ap, _∙_}
 use Prim.Native.Nat.{ℕ}
 use native.Mathlib.Omega.{arith}
 use borrow.Author.Needs.{needs}
-use lib.Seq.{length-take-le}
 use mathlib.Core.List.{_++_}
 use Rattle.report.specs.Inner.Put.{Puts}
 use Rattle.report.specs.Line.{jobs-line}
 use Rattle.report.specs.Listing.{slot-lines, job-lines}
 use Rattle.planner.specs.Planned.{finish-of, bytes-of}
-use Rattle.report.proofs.Put.{room-first, room-rest, puts-then}
+use Rattle.report.proofs.Put.{puts-then}
+use Rattle.report.proofs.Short.{Short, jobs-short}
 use Rattle.report.proofs.Place.{plan-told, Holding, holding}
 use Rattle.report.proofs.book.lines.Statement.{statement}
 use Rattle.report.proofs.book.lines.Tie as tie
-use Rattle.report.proofs.book.lines.Reads as reads
-use Rattle.report.proofs.book.lines.Lts as lts
-use Rattle.planner.proofs.plan.Reads as plan-reads
-use Rattle.report.proofs.book.jobs.Reads as book-jobs-reads
-use Rattle.report.proofs.line.jobs.Reads as line-jobs-reads
-use Rattle.report.proofs.lines.slots.Reads as slots-reads
 
--- src/book.rt:19:39
 -- the plan that was made
 made : (c : tie.After-planned) → Holding (c .before .before .before .before .before .before .args .book) (c .planned .given .0 .0) (c .before .before .before .plan2 .last .1 .0)
 made c =
     let b = c .before .before .before .before .before .before in
     holding (b .args .book) (b .pre .0) _ _ _ refl (c .before .before .before .plan2 .ensures) _ (c .planned .given .1)
+
+heading-short : (c : tie.After-planned) → Short 19 (jobs-line (c .before .before .before .before .before .before .args .book .size) (c .planned .given .0 .0))
+heading-short c = jobs-short _ _ (omega (arith, c .before .before .before .before .before .before .pre .0 .1 .shaped .few)) (omega (arith, made c .small))
 
 headed : (c : tie.After-jobs) → let b = c .before .before .before .before .before .before .before .before .before in
     Puts (jobs-line (b .args .book .size) (finish-of (b .args .book))) (b .args .at) (b .args .out .now) (c .jobs .last .0) (c .jobs .result)
@@ -34,24 +30,20 @@ headed c = rw (made (c .before .before .before) .ends) at (c .jobs .ensures)
 
 slotted : (c : tie.After-slots) → let b = c .before .before .before .before .before .before .before .before .before .before .before .before .before .before in
     Puts (jobs-line (b .args .book .size) (finish-of (b .args .book)) ++ slot-lines (bytes-of (b .args .book))) (b .args .at) (b .args .out .now) (c .slots .last .0) (c .slots .result)
-slotted c = puts-then (headed (c .before .before .before .before .before)) (rw (made (c .before .before .before .before .before .before .before .before) .bytes) at (c .slots .ensures))
+slotted c = puts-then (headed (c .before .before .before .before .before)) (rw (made (c .before .before .before .before .before .before .before .before) .bytes) at (c .slots .ensures .0))
 
 slice-aggregate-plan : tie.Need-slice-aggregate-plan
 slice-aggregate-plan c = search needs
 
--- src/book.rt:19:9
 plan-requires : tie.Need-plan-requires
 plan-requires c κs = search needs
 
--- src/book.rt:20:26
 enum-known-planned : tie.Need-enum-known-planned
 enum-known-planned c = search needs
 
--- src/book.rt:21:9
 enum-told : tie.Need-enum-told
 enum-told c = search needs
 
--- src/book.rt:21:9
 returns : tie.Need-returns
 returns c =
     let b = c .before .before .before .before .before .before in
@@ -59,42 +51,32 @@ returns c =
     let z : _≡_ {A = ℕ} 0 1 = cc in
     absurd (omega arith)
 
--- src/book.rt:23:9
 jobs-requires : tie.Need-jobs-requires
-jobs-requires c κs =
-    let b = c .before .before .before .before .before .before .before .before in
-    let k = b .args .book in
-    rw (made (c .before .before) .ends) (room-first (slot-lines (bytes-of k)) (room-first (job-lines k) (b .pre .1)))
+jobs-requires c κs = record { fits = omega (arith, heading-short (c .before .before), c .before .before .before .before .before .before .before .before .pre .1) }
 
--- src/book.rt:24:18
 mul-needed : tie.Need-mul-needed
 mul-needed c = omega (arith, made (c .before .before .before .before .before) .small)
 
--- src/book.rt:25:41
 array-share-prefix-plan : tie.Need-array-share-prefix-plan
 array-share-prefix-plan c = made (c .before .before .before .before .before .before) .fits
 
--- src/book.rt:25:41
 slice-aggregate-slots : tie.Need-slice-aggregate-slots
-slice-aggregate-slots c = sym (length-take-le _ _ (made (c .before .before .before .before .before .before .before) .fits))
+slice-aggregate-slots c = sym (made (c .before .before .before .before .before .before .before) .long)
 
--- src/book.rt:25:9
 slots-requires : tie.Need-slots-requires
 slots-requires c κs =
-    let b = c .before .before .before .before .before .before .before .before .before .before .before .before .before in
-    rw (made (c .before .before .before .before .before .before .before) .bytes) (room-rest (headed (c .before .before .before .before)) (room-first (job-lines (b .args .book)) (b .pre .1)))
+    let h = made (c .before .before .before .before .before .before .before) in
+    (omega (arith, h .small, h .long), omega (arith, h .small, h .long, heading-short (c .before .before .before .before .before .before .before), c .before .before .before .before .jobs .ensures .behind, c .before .before .before .before .before .before .before .before .before .before .before .before .before .pre .1))
 
--- src/book.rt:26:5
 jobs-requires-2 : tie.Need-jobs-requires-2
 jobs-requires-2 c κs =
     let b = c .before .before .before .before .before .before .before .before .before .before .before .before .before .before .before .before .before in
-    (b .pre .0, room-rest (slotted (c .before .before .before)) (b .pre .1))
+    let h = made (c .before .before .before .before .before .before .before .before .before .before .before) in
+    (b .pre .0, omega (arith, heading-short (c .before .before .before .before .before .before .before .before .before .before .before), c .before .before .before .before .before .before .before .before .jobs .ensures .behind, c .before .before .before .slots .ensures .1, h .small, h .long, b .pre .1))
 
--- src/book.rt:13:1
 same-length : tie.Need-same-length
 same-length c = search needs
 
--- src/book.rt:13:1
 returns-2 : tie.Need-returns-2
 returns-2 c = puts-then (slotted (c .before .before .before .before .before .before)) (c .before .before .jobs2 .ensures)
 

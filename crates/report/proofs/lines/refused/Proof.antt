@@ -8,6 +8,7 @@ use borrow.Author.Needs.{needs}
 use lib.ListN.{length, getD}
 use Rattle.report.specs.Line.{refused-line}
 use Rattle.report.proofs.Put.{puts-length}
+use Rattle.report.proofs.Short.{refused-lines-short}
 use Rattle.report.proofs.Each.{Passed, none-passed, room-next, one-passed, all-passed}
 use Rattle.report.proofs.lines.refused.Statement.{statement}
 use Rattle.report.proofs.lines.refused.Tie as tie
@@ -22,7 +23,10 @@ abbrev μ-loop : tie.MeasureT-loop
 μ-loop out₀ at numbers next₀ place₀ place-end out next place = place-end - place
 
 loop-holds : tie.Need-loop-holds Inv-loop μ-loop
-loop-holds c = (search needs, none-passed _ _ (c .before .before .pre))
+loop-holds c =
+    let b = c .before .before in
+    let short = refused-lines-short (b .args .numbers .now) (b .pre .0) (λ i. omega (arith, c .shared-slice-known .given i)) in
+    (search needs, none-passed (part (b .args .numbers .now)) _ (record { fits = omega arith }))
 
 shared-slice-read-refused : tie.Need-shared-slice-read-refused Inv-loop μ-loop
 shared-slice-read-refused c = search needs
@@ -43,7 +47,11 @@ same-length : tie.Need-same-length Inv-loop μ-loop
 same-length c = puts-length (c .before .loop .inv .1 .puts)
 
 returns : tie.Need-returns Inv-loop μ-loop
-returns c = all-passed (c .before .loop .inv .1) (omega arith)
+returns c =
+    let b = c .before .before .before .before in
+    let p = all-passed (c .before .loop .inv .1) (omega arith) in
+    let short = refused-lines-short (b .args .numbers .now) (b .pre .0) (λ i. omega (arith, c .before .before .shared-slice-known .given i)) in
+    (p, omega (arith, p .behind))
 
 pub refused-spec : {M : Type 1} → statement M
 refused-spec =
