@@ -5,3 +5,5 @@ pub mod Each
 pub mod Place
 pub mod Short
 pub mod Gather
+pub mod Once
+pub mod Example

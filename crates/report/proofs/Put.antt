@@ -64,4 +64,4 @@ module _ {s t a b : List ℕ} {at m : ℕ} (p : Puts s at a b m) where
 pub lists-by : {file text old new : List ℕ} {r : ℕ} → Listing file text → Puts text 0 old new r → Lists file old new r
 lists-by {file} {text} l p =
     let e : 0 + length text ≡ length text = omega arith in
-    record { text = text; listing = l; bytes = rw e at (p .bytes); answer = omega (arith, p .behind); within = omega (arith, p .behind, p .room .fits) }
+    record { text = text; listing = l; bytes = rw e at (p .bytes); answer = omega (arith, p .behind); within = omega (arith, p .behind, p .room .fits, puts-length p) }

@@ -59,4 +59,4 @@ pub record Lists (file old new : List ℕ) (r : ℕ) : Type 0 where
   pub listing : Listing file text
   pub bytes : new ≡ text ++ drop (length text) old
   pub answer : r ≡ length text
-  pub within : r ≤ length old
+  pub within : r ≤ length new
