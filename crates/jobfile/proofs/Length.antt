@@ -3,8 +3,8 @@
 use mathlib.Core.Bool.{Bool, true, false, cond}
 use mathlib.Core.List.{List, [], _∷_}
 use mathlib.Core.Path.{_≡_, refl, sym, ap, ap₂, _∙_}
-use Prim.Native.Nat.{ℕ, zero, suc, _+_, _*_, _^_, _≤_, _<_}
-use native.Mathlib.Nat.{pow-suc, le-antisymm, le-of-eq, lt-of-lt-of-le}
+use Prim.Native.Nat.{ℕ, zero, suc, _+_, _*_, _≤_, _<_}
+use native.Mathlib.Nat.{le-antisymm, le-of-eq, lt-of-lt-of-le}
 use native.Mathlib.Omega.{arith}
 use lib.Count.{ones}
 use lib.Dec.{T}
@@ -19,6 +19,7 @@ use Rattle.planner.specs.declared.book.Request.{Request}
 use Rattle.planner.specs.Sets.{has}
 use Rattle.planner.specs.Told.{Told}
 use Rattle.planner.proofs.Bits.{ones-count}
+use Rattle.planner.proofs.Same.{below-pow}
 use Rattle.jobfile.specs.Write.{gather, job-asked, order-asked, followers-asked, asks-of, file-of}
 use Rattle.jobfile.specs.Inner.Write.{pairs-in}
 use Rattle.jobfile.proofs.Spelled.{spelled-length}
@@ -59,10 +60,6 @@ count-sum zero p = refl
 count-sum (suc n) p = ap (λ (x : ℕ). one (p n) + x) (count-sum n p)
 
 -- ---- the ones of a set of numbers below n
-below-pow : (n : ℕ) → n < 2 ^ n
-below-pow zero = omega arith
-below-pow (suc n) = rw pow-suc (omega (arith, below-pow n))
-
 ones-held : (n x : ℕ) → ((j : ℕ) → T (has x j) → j < n) → ones x ≡ count n (has x)
 ones-held n x h =
     ones-count (x + n) x (omega (arith, below-pow x, pow-mono {i = x} {j = x + n} (omega arith)))

@@ -2,26 +2,23 @@
 -- Assumes nothing.
 use mathlib.Core.List.{List, [], _∷_, _++_}
 use mathlib.Core.Logic.{⊎-elim}
-use mathlib.Core.Path.{_≡_, refl, _∙_}
+use mathlib.Core.Path.{_≡_, refl}
 use Prim.Native.Nat.{ℕ, suc, _≤_, _<_}
-use native.Mathlib.Nat.{le-of-eq}
 use native.Mathlib.Omega.{arith}
 use lib.Dec.{T}
 use lib.ListN.{length, getD, length-append}
 use Rattle.schedule.specs.Jobs.{Closed}
-use Rattle.schedule.specs.Plan.{HasPlan}
-use Rattle.schedule.specs.Listed.{Listed, ordered, Chain, link, join, Formed, Reads, written, with-job, with-order}
-use Rattle.schedule.specs.Grow.{Extends}
+use Rattle.schedule.specs.Listed.{Listed, ordered, Chain, link, join, written, with-job, with-order}
 use Rattle.schedule.proofs.Rows.{put-all}
-use Rattle.schedule.proofs.Chains.{reads-closed, reads-loopless, jobs, jobs-reads, ordered-append, getD-put}
+use Rattle.schedule.proofs.Chains.{reads-closed, reads-loopless, ordered-append, getD-put}
 use Rattle.schedule.proofs.Made.{row-has-plan}
-use Rattle.schedule.proofs.Grow.{plan-back}
 use Rattle.planner.specs.declared.book.Book.{Book}
 use Rattle.planner.specs.declared.book.Request.{Request}
 use Rattle.planner.specs.declared.book.Request.the-variants.{Job, Before, Earlier}
 use Rattle.planner.specs.declared.book.Applied.{Applied}
 use Rattle.planner.specs.Told.{jobs-of, latest-of, Told, nothing-listed}
-use Rattle.planner.specs.Unless.{Unless, refused, passed}
+use Rattle.planner.proofs.Judged.{unless-free}
+use Rattle.planner.proofs.Requests.{among-planned}
 use Rattle.planner.specs.Outcome.{Planned, Grown, Judged, Outcome, grow}
 
 -- the first jobs of the book with their latest times, and orders that the book has
@@ -57,11 +54,6 @@ snoc-agrees l v row h e i lt =
     let n : i < suc (length l) = omega (arith, length-append l (v ∷ [])) in
     rw (getD-put l v 0 i n) (put-all (λ (x y : ℕ). x < suc (length l) → y ≡ row x) (λ j. getD l j 0) (length l) v i (λ z. e) (λ f z. h i (omega arith)) n)
 
--- ---- a check that finds no fault
-pub through : {A : Type 0} (fault : Type 0) (refusal : A) (next : A → Type 0) (r : A) → (fault → ⊥) → Unless fault refusal next r → next r
-through fault refusal next r f (refused x e) = absurd (f x)
-through fault refusal next r f (passed x y) = y
-
 module _ (k : Book) (L : Listed) (t : Told k L) where
   closed : Closed (jobs-of k)
   closed = reads-closed L (jobs-of k) (t .holds .reads)
@@ -83,9 +75,6 @@ module _ (k : Book) (L : Listed) (t : Told k L) where
     window = omega (arith, t .holds .earliest .raised .above i l, t .holds .latest .consistent .window i l)
 
   module _ (M : Listed) (p : Part k M) where
-    part-formed : Formed M
-    part-formed = record { even = p .even; held = p .held }
-
     pub part-chain : {a b : ℕ} → Chain (M .orders) a b → T (jobs-of k .before a b)
     part-chain (link {a = a} {b = b} x) = p .order a b x
     part-chain (join {a = a} {b = b} {c = c} x y) =
@@ -96,30 +85,8 @@ module _ (k : Book) (L : Listed) (t : Told k L) where
 
     -- the plan of the book is a plan of the part
     pub part-planned : Planned M
-    part-planned = (
-      jobs M,
-      reads,
-      (
-        plan .0,
-        plan-back (jobs M) (jobs-of k) extends 2 (plan .0) (plan .1),
-        record {
-          ends = λ i l. let h : i < length (M .starts) = omega (arith, reads .size) in omega (arith, p .deadline i h, p .fewer, plan .2 .ends i (omega (arith, p .fewer)));
-        },
-      ),
-    )
-      where
-        reads : Reads M (jobs M)
-        reads = jobs-reads M part-formed
-
-        plan : HasPlan 2 (jobs-of k) (latest-of k)
-        plan = row-has-plan 2 (jobs-of k) (t .holds .early) (latest-of k) (omega arith) (omega arith) closed (t .holds .earliest) (t .holds .latest .consistent)
-
-        extends : Extends (jobs M) (jobs-of k)
-        extends = record {
-          longer = omega (arith, reads .size, p .fewer);
-          starts = λ i l. le-of-eq (reads .start i l ∙ p .start i (omega (arith, reads .size)));
-          chains = λ a b la lb x. part-chain (reads .before a b la lb .0 x);
-        }
+    part-planned = among-planned M (jobs-of k) (latest-of k) (record { even = p .even; held = p .held }) (p .fewer) (p .start) (p .deadline) (λ a b la lb c. part-chain c)
+        (row-has-plan 2 (jobs-of k) (t .holds .early) (latest-of k) (omega arith) (omega arith) closed (t .holds .earliest) (t .holds .latest .consistent))
 
   -- ---- one request more
   pub next-part : (M : Listed) (q : Request) → Part k M → Next k M q → Part k (grow M q)
@@ -145,7 +112,7 @@ module _ (k : Book) (L : Listed) (t : Told k L) where
 
   -- is accepted
   judged-grown : (M : Listed) (value : ℕ) (b : Book) (r : Applied) → Part k M → Judged M value b r → Grown M value r
-  judged-grown M value b r p x = through _ _ _ r (λ no. no (part-planned M p)) x
+  judged-grown M value b r p x = unless-free _ _ _ r (λ no. no (part-planned M p)) x
 
   pub next-accepted : (M : Listed) (q : Request) (b : Book) (r : Applied) → Part k M → Next k M q → Outcome M b q r → (value : ℕ) × Grown (grow M q) value r
   next-accepted M (Job s d) b r p (room, es, ed) x =
@@ -155,13 +122,13 @@ module _ (k : Book) (L : Listed) (t : Told k L) where
       let apart = window i room in (
         i,
         judged-grown (grow M (Job s d)) i b r (next-part M (Job s d) p (room, es, ed))
-            (through _ _ _ r (λ f. omega arith) (through _ _ _ r (λ f. ⊎-elim (λ g. omega arith) (λ g. omega arith) f) (through _ _ _ r (λ f. omega (arith, t .shaped .few)) x))),
+            (unless-free _ _ _ r (λ f. omega arith) (unless-free _ _ _ r (λ f. ⊎-elim (λ g. omega arith) (λ g. omega arith) f) (unless-free _ _ _ r (λ f. omega (arith, t .shaped .few)) x))),
       )
   next-accepted M (Before a c) b r p (all, y) x =
       let h = t .shaped .before-rest (a .0) (c .0) y in (
         0,
         judged-grown (grow M (Before a c)) 0 b r (next-part M (Before a c) p (all, y))
-            (through _ _ _ r (λ f. ⊎-elim (λ e. let z = rw e at y in loopless (c .0) (c .0) z z) (λ z. loopless (a .0) (c .0) y (part-chain M p z)) f)
-            (through _ _ _ r (λ f. ⊎-elim (λ g. omega arith) (λ g. omega arith) f) x)),
+            (unless-free _ _ _ r (λ f. ⊎-elim (λ e. let z = rw e at y in loopless (c .0) (c .0) z z) (λ z. loopless (a .0) (c .0) y (part-chain M p z)) f)
+            (unless-free _ _ _ r (λ f. ⊎-elim (λ g. omega arith) (λ g. omega arith) f) x)),
       )
   next-accepted M (Earlier j d) b r p y x = absurd y

@@ -17,15 +17,18 @@ use Rattle.jobfile.specs.declared.reader.Step.{Step}
 use Rattle.jobfile.specs.Record.{asked-at}
 use Rattle.jobfile.specs.Read.{stays, Asks, ReadOutcome, ReadsRecord}
 
+-- a whole record stands at the offset
+pub asks-reads : (k : Book) (file : List ℕ) (at : ℕ) (r : Step) (a : Asked) → length file ≤ 24576 → at + 6 ≤ length file → a ≡ asked-at file at → Made (r .book) → Asks k at a r →
+    ReadsRecord k file at r
+asks-reads k file at r a short inside e made x = record {
+  outcome = passed (λ f. omega arith) (passed (λ f. omega arith) (passed (λ f. omega arith) (rw e at x)));
+  made = made;
+}
+
 module _ (k : Book) (file : List ℕ) (at : ℕ) (m : Made k) where
   -- the end or a stop
   pub stay-reads : (r : Step) (e : Event) → r ≡ stays k at e → ReadOutcome k file at r → ReadsRecord k file at r
   stay-reads r e x o = record { outcome = o; made = rw x m }
-
-  module _ (short : length file ≤ 24576) (inside : at + 6 ≤ length file) where
-    -- a whole record stands at the offset
-    pub asks-reads : (r : Step) (a : Asked) → a ≡ asked-at file at → Made (r .book) → Asks k at a r → ReadsRecord k file at r
-    asks-reads r a e made x = record { outcome = passed (λ f. omega arith) (passed (λ f. omega arith) (passed (λ f. omega arith) (rw e at x))); made = made }
 
   -- a read has one outcome
   asks-one : (a : Asked) → One (Asks k at a)

@@ -1,8 +1,8 @@
 -- What is written is read back.
 -- Assumes nothing.
 use mathlib.Core.List.{List, [], _∷_, _++_, append-assoc}
-use mathlib.Core.Path.{_≡_, refl, sym, ap, ap₂, _∙_}
-use Prim.Native.Nat.{ℕ, _+_, _*_, _/_, _≤_, _<_}
+use mathlib.Core.Path.{_≡_, refl, sym, ap, ap₂, subst, _∙_}
+use Prim.Native.Nat.{ℕ, _+_, _*_, _≤_}
 use native.Mathlib.Nat.{add-zero}
 use native.Mathlib.Omega.{arith}
 use lib.ListN.{length, getD, take, replicate, length-append}
@@ -15,8 +15,9 @@ use Rattle.planner.specs.declared.refusal.Answer.{Answer}
 use Rattle.planner.specs.declared.refusal.Answer.the-variants.{Accepted}
 use Rattle.planner.specs.Answer.{number-of}
 use Rattle.planner.specs.Told.{Told, Made, nothing-listed}
-use Rattle.planner.specs.Unless.{Unless, refused, passed}
+use Rattle.planner.specs.Unless.{refused, passed}
 use Rattle.planner.specs.Outcome.{grow}
+use Rattle.planner.proofs.Judged.{unless-free}
 use Rattle.planner.proofs.Same.{told-one}
 use Rattle.jobfile.specs.declared.record.Asked.the-variants.{Known}
 use Rattle.jobfile.specs.declared.reader.Event.the-variants as event
@@ -24,10 +25,10 @@ use Rattle.jobfile.specs.declared.reader.Step.{Step}
 use Rattle.jobfile.specs.Record.{word-at, JB, OR, TG, record-of, spell, asked, asked-at}
 use Rattle.jobfile.specs.Read.{stays, Answers, ReadOutcome, ReadsRecord}
 use Rattle.jobfile.specs.Write.{spelled, asks-of, file-of, WritesBook}
-use Rattle.jobfile.specs.File.{Pass, halts, goes, Whole, ReadsFile}
+use Rattle.jobfile.specs.File.{Pass, halts, goes, ReadsFile}
 use Rattle.jobfile.specs.RoundTrip.{ReadsBack}
 use Rattle.jobfile.proofs.Spelled.{spell-length, spelled-length}
-use Rattle.jobfile.proofs.Part.{Part, Next, part-nothing, next-part, next-accepted, through}
+use Rattle.jobfile.proofs.Part.{Part, Next, part-nothing, next-part, next-accepted}
 use Rattle.jobfile.proofs.Retold.{grown, Fits, done, next, asks-fit, retold, told-again}
 use Rattle.jobfile.proofs.Length.{file-short}
 use Rattle.jobfile.proofs.Whole.{request-inside}
@@ -55,7 +56,7 @@ read-spelled front rest (Earlier j d) = asked-front front rest TG (j .0) d
 module _ (k : Book) (L : Listed) (t : Told k L) (file : List ℕ) (short : length file ≤ 24576) where
   -- what a read of a whole record gives
   read-asked : (b : Book) (at : ℕ) (q : Request) (r : Step) → at + 6 ≤ length file → asked-at file at ≡ Known q → ReadsRecord b file at r → Answers b q at r
-  read-asked b at q r h e x = rw e at (through _ _ _ r (λ f. omega arith) (through _ _ _ r (λ f. omega arith) (through _ _ _ r (λ f. omega arith) (x .outcome))))
+  read-asked b at q r h e x = rw e at (unless-free _ _ _ r (λ f. omega arith) (unless-free _ _ _ r (λ f. omega arith) (unless-free _ _ _ r (λ f. omega arith) (x .outcome))))
 
   -- and one at the length
   read-end : (b : Book) (r : Step) → ReadOutcome b file (length file) r → r ≡ stays b (length file) event.End
@@ -117,12 +118,7 @@ written-file k old bytes n (passed f x) =
 
 pub write-then-read : (k e : Book) (old bytes lent numbers : List ℕ) (n : ℕ) (r : Step) → Made k → Told e nothing-listed → WritesBook k old bytes (Accepted n) →
     ReadsFile e (take n bytes) lent numbers r → n ≤ 6 * length lent → r ≡ stays k n event.End
-write-then-read k e old bytes lent numbers n r m z w x room = go (rw f at (x .outcome))
-  where
-    f : take n bytes ≡ file-of k
-    f = written-file k old bytes n w .1
-
-    go : Unless {A = Step × List ℕ} ((length (file-of k) ≤ 24576) × (length lent < length (file-of k) / 6)) (stays e 0 (event.Stopped 8 (length (file-of k) / 6)), lent)
-        (λ y. Whole e (file-of k) lent (y .1) (y .0)) (r, numbers) → r ≡ stays k n event.End
-    go (refused g y) = absurd (omega (arith, g .1, written-file k old bytes n w .0))
-    go (passed g y) = rw (written-file k old bytes n w .0) (round-trip k e m z (y .numbers) r (y .pass) .1)
+write-then-read k e old bytes lent numbers n r m z w x room =
+    let f = written-file k old bytes n w in
+    let y = unless-free _ _ _ (r, numbers) (λ g. omega (arith, g .1, f .0, ap length (f .1))) (x .outcome) in
+    rw (f .0) (round-trip k e m z (y .numbers) r (subst (λ (l : List ℕ). Pass l e 0 (y .numbers) r) (f .1) (y .pass)) .1)

@@ -32,6 +32,7 @@ job-asked start latest i = Job (getD start i 0) (getD latest i 0) ∷ []
 abbrev pub order-asked : List ℕ → ℕ → ℕ → List Request
 order-asked before a b = cond (has (getD before b 0) a) (Before (record { 0 = a }) (record { 0 = b }) ∷ []) []
 
+-- one after the other
 abbrev pub followers-asked : ℕ → List ℕ → ℕ → List Request
 followers-asked size before a = gather size (order-asked before a)
 

@@ -17,15 +17,15 @@ use Rattle.schedule.specs.Make.{slots, seat}
 use Rattle.schedule.proofs.Tests.{lt-by}
 use Rattle.schedule.proofs.Rows.{greatest-bound, greatest-least}
 use Rattle.schedule.proofs.Seats.{slots-stay, slot-seat}
+use Rattle.planner.specs.declared.layout.Stage.{Stage}
 use Rattle.planner.specs.Sets.{has}
 use Rattle.planner.specs.Inner.Layout.{Layable, Laid, Late, Lays}
 use Rattle.planner.proofs.Bits.{high-has}
-use Rattle.planner.proofs.Same.{same-test, digits-same}
-use Rattle.planner.proofs.Serve.{empty}
+use Rattle.planner.proofs.Readiness.{empty, none-in}
 
 module _ (J : Jobs) (row : ℕ → ℕ) where
   -- before slot 0
-  pub laid-none : (left : ℕ) → J .size ≤ 64 → ((j : ℕ) → has left j ≡ ltb j (J .size)) → Laid J row 0 (replicate 64 4096) left 0
+  pub laid-none : (left : ℕ) → J .size ≤ 64 → ((j : ℕ) → has left j ≡ ltb j (J .size)) → Laid J row (replicate 64 4096) (record { left = left; second = 0; next = record { 0 = 0 } })
   unfolding slots
   laid-none left few whole = record {
     kept = record {
@@ -37,7 +37,13 @@ module _ (J : Jobs) (row : ℕ → ℕ) where
     cores = λ i l. high-has 0 i (pow-pos i);
   }
 
-  module _ (t : ℕ) (slot : List ℕ) (left second : ℕ) (a : Laid J row t slot left second) (last : (t ≡ 0) ⊎ Late J row t) where
+  module _ (slot : List ℕ) (g : Stage) (a : Laid J row slot g) (last : (g .next .0 ≡ 0) ⊎ Late J row (g .next .0)) where
+    abbrev t : ℕ
+    t = g .next .0
+
+    abbrev left : ℕ
+    left = g .left
+
     placed : left ≡ 0 → (i : ℕ) → i < J .size → slots 2 J row 4096 t i < 4096
     placed e i l = lt-by (slots 2 J row 4096 t i) 4096 (λ le. empty i (subst (λ x. T (has x i)) e (subst T (sym (a .kept .free i l)) (le→leb 4096 (slots 2 J row 4096 t i) le))))
 
@@ -45,14 +51,12 @@ module _ (J : Jobs) (row : ℕ → ℕ) where
     pub slot-left : Layable J row → t ≤ 4096 → (left ≡ 0 → ⊥) → t < 4096
     slot-left ok h f = lt-by t 4096 (λ le.
         let e : t ≡ 4096 = omega arith in
-        f (digits-same left 0 (λ j. same-test (has left j) (has 0 j)
-        (λ x.
+        f (none-in left (λ j x.
         let held : j < J .size = a .kept .held j x in
-        absurd (omega (arith, ok .placed j held, subst (λ u. 4096 ≤ slots 2 J row 4096 u j) e (leb→le 4096 (slots 2 J row 4096 t j) (subst T (a .kept .free j held) x)))))
-        (λ x. absurd (empty j x)))))
+        omega (arith, ok .placed j held, subst (λ u. 4096 ≤ slots 2 J row 4096 u j) e (leb→le 4096 (slots 2 J row 4096 t j) (subst T (a .kept .free j held) x))))))
 
     -- when none is left, it is the plan
-    pub lays : t ≤ 4096 → left ≡ 0 → Lays J row (record { slot = slot; second = second; finish = t })
+    pub lays : t ≤ 4096 → left ≡ 0 → Lays J row (record { slot = slot; second = g .second; finish = t })
     unfolding finish
     lays h e = record {
       at = λ i l. a .kept .at i l ∙ sym (stay i l);

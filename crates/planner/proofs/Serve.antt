@@ -1,87 +1,51 @@
 -- One slot served: the sets and the row that the code keeps follow the plan made.
 -- Assumes nothing.
-use mathlib.Core.Bool.{Bool, true, false, not, _&&_, _||_, and-true, and-false, or-true, or-false}
+use mathlib.Core.Bool.{not, _&&_, _||_, and-true, and-false, or-true, or-false}
 use mathlib.Core.List.{List}
-use mathlib.Core.Logic.{_⊎_, inl, inr, ⊎-elim}
-use mathlib.Core.Path.{_≡_, refl, sym, ap, ap₂, subst, _∙_}
-use Prim.Native.Nat.{ℕ, zero, suc, _+_, _≤_, _<_}
+use mathlib.Core.Logic.{⊎-elim}
+use mathlib.Core.Path.{_≡_, refl, sym, ap, subst, _∙_}
+use Prim.Native.Nat.{ℕ, suc, _+_, _≤_, _<_}
 use native.Mathlib.Decide.{le-ind}
 use native.Mathlib.Nat.{le-refl, le-of-lt}
 use native.Mathlib.Numerals.{add-one}
 use native.Mathlib.Omega.{arith}
 use borrow.Author.Tests.{lt-ltb, le-ltb, le-leb, lt-leb, eq-eqb, ne-eqb}
-use lib.Bits.{bitAnd}
-use lib.Dec.{T, eqb, leb, ltb, eqb→eq, leb→le, le→leb, lt→ltb, ltb→lt, not-T, T-not}
-use lib.ListN.{length, length-set, getD, set}
-use lib.Pow.{pow-pos}
+use lib.Dec.{T, eqb, leb, ltb, leb→le}
+use lib.ListN.{length-set, set}
 use lib.Seq.{getD-set-same, getD-set-other}
-use Rattle.schedule.specs.Row.{put, all}
+use Rattle.schedule.specs.Row.{put}
 use Rattle.schedule.specs.Jobs.{Jobs}
-use Rattle.schedule.specs.Make.{choose, ready, taken, serve, slots, seat}
-use Rattle.schedule.proofs.Tests.{test, and-pair, and-fst, and-snd, or-left, or-right, or-split, eq→eqb, le-by, lt-by}
+use Rattle.schedule.specs.Make.{choose, taken, serve, slots, seat}
+use Rattle.schedule.proofs.Tests.{and-fst, le-by}
 use Rattle.schedule.proofs.Search.{least}
 use Rattle.schedule.proofs.Rows.{put-cases, put-other}
-use Rattle.schedule.proofs.Choice.{all-each, each-all, ready-read, ready-write}
-use Rattle.schedule.proofs.Loop.{Agree, choose-ext, put-set}
+use Rattle.schedule.proofs.Choice.{ready-read, ready-write}
+use Rattle.schedule.proofs.Loop.{Agree}
 use Rattle.schedule.proofs.Seats.{taken-chosen, taken-free, slot-seat, idle-after}
+use Rattle.planner.specs.declared.layout.Stage.{Stage}
 use Rattle.planner.specs.Sets.{has}
 use Rattle.planner.specs.Told.{jobs-in, row-in}
 use Rattle.planner.specs.Inner.Choice.{ready-by, Wakes}
 use Rattle.planner.specs.Inner.Layout.{on-second, Kept, Serving, Serves}
-use Rattle.planner.proofs.Bits.{and-has, high-has}
-use Rattle.planner.proofs.Same.{same-test, digits-same}
-
--- nothing is in the empty set
-pub empty : (j : ℕ) → T (has 0 j) → ⊥
-empty j x = subst T (high-has 0 j (pow-pos j)) x
-
--- no job of one set is in the other, as a test of each job
-apart-all : (n set undone t : ℕ) (slot-of : ℕ → ℕ) → ((i : ℕ) → i < n → has undone i ≡ leb t (slot-of i)) → ((i : ℕ) → T (has undone i) → i < n) →
-    eqb (bitAnd set undone) 0 ≡ all n (λ a. not (has set a) || ltb (slot-of a) t)
-apart-all n set undone t slot-of late held =
-    same-test (eqb (bitAnd set undone) 0) (all n led)
-    (λ x. each-all n led (λ a l. ⊎-elim
-    (λ y. or-right (not (has set a)) (ltb (slot-of a) t) (lt→ltb (slot-of a) t (lt-by (slot-of a) t (λ le.
-    empty a (subst (λ z. T (has z a)) (eqb→eq (bitAnd set undone) 0 x) (subst T (sym (and-has set undone a)) (and-pair (has set a) (has undone a) y (subst T (sym (late a l)) (le→leb t (slot-of a) le)))))))))
-    (λ z. or-left (not (has set a)) (ltb (slot-of a) t) (not-T (has set a) z))
-    (test (has set a))))
-    (λ x. eq→eqb (bitAnd set undone) 0 (digits-same (bitAnd set undone) 0 (λ j. and-has set undone j ∙ same-test (has set j && has undone j) (has 0 j)
-    (λ y. absurd (clash x j (and-fst (has set j) (has undone j) y) (and-snd (has set j) (has undone j) y)))
-    (λ y. absurd (empty j y)))))
-  where
-    led : ℕ → Bool
-    led a = not (has set a) || ltb (slot-of a) t
-
-    clash : T (all n led) → (j : ℕ) → T (has set j) → T (has undone j) → ⊥
-    clash x j y z = ⊎-elim
-        (λ no-set. T-not (has set j) no-set y)
-        (λ lt. let up : t ≤ slot-of j = leb→le t (slot-of j) (subst T (late j (held j z)) z) in absurd (omega (arith, ltb→lt (slot-of j) t lt)))
-        (or-split (not (has set j)) (ltb (slot-of j) t) (all-each n led x j (held j z)))
-
--- ---- the choice by sets is the plan's
-module _ (size : ℕ) (start latest before : List ℕ) (t left undone : ℕ) (slot-of : ℕ → ℕ)
-    (free : (i : ℕ) → i < size → has left i ≡ leb 4096 (slot-of i))
-    (late : (i : ℕ) → i < size → has undone i ≡ leb t (slot-of i))
-    (held : (i : ℕ) → T (has undone i) → i < size) where
-  pub choice-taken : choose size (row-in latest) (ready-by start before left undone t) size ≡ taken (jobs-in size start before) (row-in latest) 4096 t slot-of
-  unfolding taken ready
-  choice-taken = choose-ext size (row-in latest) (row-in latest) (ready-by start before left undone t) (ready (jobs-in size start before) 4096 t slot-of) size
-      (λ i l. refl)
-      (λ i l. ap₂ (λ x y. leb (getD start i 0) t && x && y) (free i l) (apart-all size (getD before i 0) undone t slot-of late held))
+use Rattle.planner.proofs.Readiness.{none-in, choice-taken}
 
 -- ---- the row and the set of jobs left
 module _ (size t : ℕ) (slot-of : ℕ → ℕ) (slot : List ℕ) (left : ℕ) (k : Kept size slot-of slot left) where
-  -- an idle core
-  pub kept-idle : (job : ℕ) → job ≡ size → Kept size (put slot-of job t) slot left
-  kept-idle job e = record {
+  -- what agrees with the slots is kept as well
+  kept-alike : (other : ℕ → ℕ) → Agree size other slot-of → Kept size other slot left
+  kept-alike other e = record {
     row = k .row;
-    at = λ i l. k .at i l ∙ sym (put-other slot-of job t i (λ q. omega arith));
-    free = λ i l. k .free i l ∙ ap (leb 4096) (sym (put-other slot-of job t i (λ q. omega arith)));
+    at = λ i l. k .at i l ∙ sym (e i l);
+    free = λ i l. k .free i l ∙ ap (leb 4096) (sym (e i l));
     held = k .held;
   }
 
+  -- an idle core
+  kept-idle : (job : ℕ) → job ≡ size → Kept size (put slot-of job t) slot left
+  kept-idle job e = kept-alike (put slot-of job t) (λ i l. put-other slot-of job t i (λ q. omega arith))
+
   -- a core that takes a job
-  pub kept-put : (job rest : ℕ) → job < size → size ≤ 64 → t < 4096 → ((j : ℕ) → has rest j ≡ (has left j && not (eqb j job))) → Kept size (put slot-of job t) (set slot job t) rest
+  kept-put : (job rest : ℕ) → job < size → size ≤ 64 → t < 4096 → ((j : ℕ) → has rest j ≡ (has left j && not (eqb j job))) → Kept size (put slot-of job t) (set slot job t) rest
   kept-put job rest l few early without = record {
     row = simp length-set (k .row);
     at = λ i h. sym (⊎-elim
@@ -93,15 +57,6 @@ module _ (size t : ℕ) (slot-of : ℕ → ℕ) (slot : List ℕ) (left : ℕ) (
         (λ x. rw (x .1) (simp (ne-eqb i job (x .0), and-true) (k .free i h)))
         (put-cases slot-of job t i);
     held = λ i x. k .held i (and-fst (has left i) (not (eqb i job)) (subst T (without i) x));
-  }
-
-  -- what agrees with the slots is kept as well
-  pub kept-alike : (other : ℕ → ℕ) → Agree size other slot-of → Kept size other slot left
-  kept-alike other e = record {
-    row = k .row;
-    at = λ i l. k .at i l ∙ sym (e i l);
-    free = λ i l. k .free i l ∙ ap (leb 4096) (sym (e i l));
-    held = k .held;
   }
 
 -- ---- the seats of slot t
@@ -200,7 +155,16 @@ module _ (J : Jobs) (row : ℕ → ℕ) (t next : ℕ) (early : t < 4096) (idle 
       u h
 
 -- ---- what the code does in a slot
-module _ (size : ℕ) (start latest before : List ℕ) (t : ℕ) (slot : List ℕ) (left second : ℕ) (s : Serving (jobs-in size start before) (row-in latest) t slot left second) where
+module _ (size : ℕ) (start latest before : List ℕ) (slot : List ℕ) (g : Stage) (s : Serving (jobs-in size start before) (row-in latest) slot g) where
+  abbrev t : ℕ
+  t = g .next .0
+
+  abbrev left : ℕ
+  left = g .left
+
+  abbrev second : ℕ
+  second = g .second
+
   abbrev J : Jobs
   J = jobs-in size start before
 
@@ -213,7 +177,7 @@ module _ (size : ℕ) (start latest before : List ℕ) (t : ℕ) (slot : List �
   -- some job is left
   some-left : (i : ℕ) × (i < size) × (4096 ≤ now J row t i)
   some-left = ⊎-elim
-      (λ none. absurd (s .some (digits-same left 0 (λ j. same-test (has left j) (has 0 j) (λ x. absurd (none j (k .held j x) x)) (λ x. absurd (empty j x))))))
+      (λ none. absurd (s .some (none-in left (λ j x. none j (k .held j x) x))))
       (λ x. (x .at, x .below, leb→le 4096 (now J row t (x .at)) (subst T (k .free (x .at) (x .below)) (x .member))))
       (least size (has left) (λ i. i))
 
@@ -223,7 +187,7 @@ module _ (size : ℕ) (start latest before : List ℕ) (t : ℕ) (slot : List �
 
   -- both idle, until a job starts
   pub idle-serves : (a next : ℕ) → a ≡ core-0 J row t → size ≤ a → Wakes size (row-in start) t next →
-      Serves J row t slot (record { left = left; second = second; next = record { 0 = next } })
+      Serves J row g slot (record { left = left; second = second; next = record { 0 = next } })
   idle-serves a next e h w = record {
     later = w .later;
     within = w .within;
@@ -236,7 +200,7 @@ module _ (size : ℕ) (start latest before : List ℕ) (t : ℕ) (slot : List �
 
   -- what is kept of the whole slot serves
   next-serves : (slot′ : List ℕ) (left′ second′ : ℕ) → Kept size (whole J row t) slot′ left′ → ((i : ℕ) → i < size → has second′ i ≡ (has second i || eqb i (core-1 J row t))) →
-      Serves J row t slot′ (record { left = left′; second = second′; next = record { 0 = t + 1 } })
+      Serves J row g slot′ (record { left = left′; second = second′; next = record { 0 = t + 1 } })
   next-serves slot′ left′ second′ kept more = record {
     later = omega arith;
     within = omega (arith, s .early);
@@ -268,7 +232,7 @@ module _ (size : ℕ) (start latest before : List ℕ) (t : ℕ) (slot : List �
 
     module _ (b : ℕ) (f : b ≡ core-1 J row t) where
       -- a lone job on core 0
-      pub lone-serves : size ≤ b → Serves J row t (set slot a t) (record { left = rest; second = second; next = record { 0 = t + 1 } })
+      pub lone-serves : size ≤ b → Serves J row g (set slot a t) (record { left = rest; second = second; next = record { 0 = t + 1 } })
       lone-serves h =
           let other : core-1 J row t ≡ size = sym f ∙ idle-is J row t (half J row t) b (f ∙ second-taken J row t) h in
           next-serves (set slot a t) rest second
@@ -277,7 +241,7 @@ module _ (size : ℕ) (start latest before : List ℕ) (t : ℕ) (slot : List �
 
       -- a job on each core
       pub full-serves : (left′ second′ : ℕ) → b < size → ((j : ℕ) → has left′ j ≡ (has rest j && not (eqb j b))) → ((j : ℕ) → has second′ j ≡ (has second j || eqb j b)) →
-          Serves J row t (set (set slot a t) b t) (record { left = left′; second = second′; next = record { 0 = t + 1 } })
+          Serves J row g (set (set slot a t) b t) (record { left = left′; second = second′; next = record { 0 = t + 1 } })
       full-serves left′ second′ h less more =
           next-serves (set (set slot a t) b t) left′ second′
           (subst (λ x. Kept size (put (half J row t) x t) (set (set slot a t) b t) left′) f

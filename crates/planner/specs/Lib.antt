@@ -5,4 +5,5 @@ pub mod Unless
 pub mod Answer
 pub mod Outcome
 pub mod Planned
+pub mod Judged
 pub mod Inner

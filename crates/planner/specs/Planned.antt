@@ -40,7 +40,7 @@ Plans k old new r =
     Unless {A = Answer × List ℕ} (length old < 2 * finish-of k) (answer.Refused 8 (2 * finish-of k), old)
     (λ x. x ≡ (Accepted (finish-of k), bytes-of k ++ drop (2 * finish-of k) old)) (r, new)
 
--- core 1 if its seat in the job's slot is the job's, else core 0
+-- core 1 if its seat in the job's slot is the job's, else core 0 (01, The plan made: "its core")
 abbrev pub core-of : Book → ℕ → ℕ
 core-of k i = cond (eqb (seat-of k (plan-of k i) 1) i) 1 0
 

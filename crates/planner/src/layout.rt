@@ -13,7 +13,7 @@ pub struct Layout {
 }
 
 // The jobs not yet placed, of those placed the jobs on core 1, and the next slot to serve.
-pub struct Served {
+pub struct Stage {
     pub left: u64,
     pub second: u64,
     pub next: SlotTime,
@@ -30,28 +30,18 @@ pub fn lay_out<'a>(
     ensures { λ r. ⌜ Lays (jobs-in size (now (start .entry)) (now (before .entry))) (row-in (now (latest .entry))) r ⌝ }
 {
     let mut slot = [4096u16; 64];
-    let mut left = sets::below(size);
-    let mut second: u64 = 0;
-    let mut t: usize = 0;
-    while left != 0 {
-        let served = serve(
-            size,
-            start,
-            latest,
-            before,
-            &mut slot,
-            left,
-            second,
-            SlotTime(t),
-        );
-        left = served.left;
-        second = served.second;
-        t = served.next.0;
+    let mut stage = Stage {
+        left: sets::below(size),
+        second: 0,
+        next: SlotTime(0),
+    };
+    while stage.left != 0 {
+        stage = serve(size, start, latest, before, &mut slot, stage);
     }
     Layout {
         slot: slot,
-        second: second,
-        finish: t,
+        second: stage.second,
+        finish: stage.next.0,
     }
 }
 
@@ -62,38 +52,31 @@ fn serve<'a>(
     latest: &'a [u16; 64],
     before: &'a [u64; 64],
     slot: &mut [u16; 64],
-    left: u64,
-    second: u64,
-    t: SlotTime,
-) -> Served
-    requires { ⌜ Serving (jobs-in size (now start) (now before)) (row-in (now latest)) (t .0) (now slot) left second ⌝ }
-    ensures { λ r. ⌜ Serves (jobs-in size (now (start .entry)) (now (before .entry))) (row-in (now (latest .entry))) (t .0) (now (slot .exit)) r ⌝ }
+    stage: Stage,
+) -> Stage
+    requires { ⌜ Serving (jobs-in size (now start) (now before)) (row-in (now latest)) (now slot) stage ⌝ }
+    ensures { λ r. ⌜ Serves (jobs-in size (now (start .entry)) (now (before .entry))) (row-in (now (latest .entry))) stage (now (slot .exit)) r ⌝ }
 {
+    let left = stage.left;
+    let t = stage.next;
+    let mut after = stage;
     let first = choice::next_job(size, start, latest, before, left, left, t);
     let a = first.0;
     if a >= size {
-        return Served {
-            left: left,
-            second: second,
-            next: choice::next_start(size, start, t),
-        };
+        after.next = choice::next_start(size, start, t);
+        return after;
     }
-    let next = SlotTime(t.0 + 1);
     slot[a] = t.0 as u16;
-    let rest = sets::without(left, first);
-    let other = choice::next_job(size, start, latest, before, rest, left, t);
+    let next = SlotTime(t.0 + 1);
+    after.next = next;
+    after.left = sets::without(left, first);
+    let other = choice::next_job(size, start, latest, before, after.left, left, t);
     let b = other.0;
     if b >= size {
-        return Served {
-            left: rest,
-            second: second,
-            next: next,
-        };
+        return after;
     }
     slot[b] = t.0 as u16;
-    Served {
-        left: sets::without(rest, other),
-        second: sets::with(second, other),
-        next: next,
-    }
+    after.left = sets::without(after.left, other);
+    after.second = sets::with(after.second, other);
+    after
 }

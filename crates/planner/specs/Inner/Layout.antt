@@ -10,7 +10,7 @@ use Rattle.schedule.specs.Jobs.{Jobs}
 use Rattle.schedule.specs.Plan.{finish}
 use Rattle.schedule.specs.Make.{slots, seat}
 use Rattle.planner.specs.declared.layout.Layout.{Layout}
-use Rattle.planner.specs.declared.layout.Served.{Served}
+use Rattle.planner.specs.declared.layout.Stage.{Stage}
 use Rattle.planner.specs.Sets.{has}
 
 -- the plan has every job placed by slot 4096
@@ -29,27 +29,27 @@ pub record Kept (size : ℕ) (slot-of : ℕ → ℕ) (slot : List ℕ) (left : �
   pub free : (i : ℕ) → i < size → has left i ≡ leb 4096 (slot-of i)
   pub held : (i : ℕ) → T (has left i) → i < size
 
--- the layout of the first t slots
-pub record Laid (J : Jobs) (row : ℕ → ℕ) (t : ℕ) (slot : List ℕ) (left second : ℕ) : Type 0 where
-  pub kept : Kept (J .size) (slots 2 J row 4096 t) slot left
-  pub cores : (i : ℕ) → i < J .size → has second i ≡ on-second J row (slots 2 J row 4096 t) i
+-- the layout of the slots before the next
+pub record Laid (J : Jobs) (row : ℕ → ℕ) (slot : List ℕ) (g : Stage) : Type 0 where
+  pub kept : Kept (J .size) (slots 2 J row 4096 (g .next .0)) slot (g .left)
+  pub cores : (i : ℕ) → i < J .size → has (g .second) i ≡ on-second J row (slots 2 J row 4096 (g .next .0)) i
 
 -- one slot more is to be served
-pub record Serving (J : Jobs) (row : ℕ → ℕ) (t : ℕ) (slot : List ℕ) (left second : ℕ) : Type 0 where
+pub record Serving (J : Jobs) (row : ℕ → ℕ) (slot : List ℕ) (g : Stage) : Type 0 where
   pub few : J .size ≤ 64
-  pub early : t < 4096
-  pub some : left ≡ 0 → ⊥
-  pub laid : Laid J row t slot left second
+  pub early : g .next .0 < 4096
+  pub some : g .left ≡ 0 → ⊥
+  pub laid : Laid J row slot g
 
 -- some job is in no slot before the last of the first t
 abbrev pub Late : Jobs → (ℕ → ℕ) → ℕ → Type 0
 Late J row t = (i : ℕ) × (i < J .size) × (t ≤ slots 2 J row 4096 t i + 1)
 
 -- the slot served, and idle ones after it
-pub record Serves (J : Jobs) (row : ℕ → ℕ) (t : ℕ) (slot : List ℕ) (r : Served) : Type 0 where
-  pub later : t < r .next .0
+pub record Serves (J : Jobs) (row : ℕ → ℕ) (g : Stage) (slot : List ℕ) (r : Stage) : Type 0 where
+  pub later : g .next .0 < r .next .0
   pub within : r .next .0 ≤ 4096
-  pub laid : Laid J row (r .next .0) slot (r .left) (r .second)
+  pub laid : Laid J row slot r
   pub late : Late J row (r .next .0)
 
 -- the whole layout

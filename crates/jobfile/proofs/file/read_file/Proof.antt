@@ -41,16 +41,22 @@ number-requires : tie.Need-number-requires Inv-loop μ-loop
 number-requires c κs = search needs
 
 slice-write-answers : tie.Need-slice-write-answers Inv-loop μ-loop
-slice-write-answers c = underway-room _ _ _ _ _ _ _ (c .before .before .before .before .before .loop .inv) _ (c .before .before .before .before .read .ensures) _ (c .before .before .event .given .1)
+slice-write-answers c =
+    let e = c .before .before in
+    underway-room _ _ _ _ _ _ _ (e .before .before .before .loop .inv) _ (e .before .before .read .ensures) _ (e .event .given .1)
 
 add-done : tie.Need-add-done Inv-loop μ-loop
-add-done c = omega (arith, underway-room _ _ _ _ _ _ _ (c .before .before .before .before .before .loop .inv) _ (c .before .before .before .before .read .ensures) _ (c .before .before .event .given .1), underway-length _ _ _ _ _ _ _ (c .before .before .before .before .before .loop .inv))
+add-done c = omega (arith, slice-write-answers c, underway-length _ _ _ _ _ _ _ (c .before .before .before .before .before .loop .inv))
 
 loop-less : tie.Need-loop-less Inv-loop μ-loop
-loop-less c = underway-less _ _ _ _ _ _ _ (c .before .before .before .before .before .before .loop .inv) _ (c .before .before .before .before .before .read .ensures) _ (c .before .before .before .event .given .1)
+loop-less c =
+    let e = c .before .before .before in
+    underway-less _ _ _ _ _ _ _ (e .before .before .before .loop .inv) _ (e .before .before .read .ensures) _ (e .event .given .1)
 
 loop-again : tie.Need-loop-again Inv-loop μ-loop
-loop-again c = rw (c .before .number .ensures) (underway-more _ _ _ _ _ _ _ (c .before .before .before .before .before .before .loop .inv) _ (c .before .before .before .before .before .read .ensures) _ (c .before .before .before .event .given .1))
+loop-again c =
+    let e = c .before .before .before in
+    rw (c .before .number .ensures) (underway-more _ _ _ _ _ _ _ (e .before .before .before .loop .inv) _ (e .before .before .read .ensures) _ (e .event .given .1))
 
 pub read-file-spec : {M : Type 1} → statement M
 read-file-spec =

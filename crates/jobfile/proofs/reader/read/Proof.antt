@@ -53,12 +53,15 @@ stay-requires-5 c κs = search needs
 
 returns-5 : tie.Need-returns-5
 returns-5 c =
-    asks-reads _ _ _ (c .before .before .before .before .before .before .before .before .before .before .before .pre) (omega arith) (omega arith) _ _ (sym (c .before .before .before .asked .given .1) ∙ c .before .before .before .before .before .asked-at .ensures)
-    (c .before .apply .ensures .made) (record { answer = c .before .apply .result .answer; event = refl; moved = refl; applies = c .before .apply .ensures })
+    let a = c .before .before .before in
+    asks-reads _ _ _ _ _ (omega arith) (omega arith) (sym (a .asked .given .1) ∙ a .before .before .asked-at .ensures) (c .before .apply .ensures .made)
+    (record { answer = c .before .apply .result .answer; event = refl; moved = refl; applies = c .before .apply .ensures })
 
 returns-6 : tie.Need-returns-6
 returns-6 c =
-    asks-reads _ _ _ (c .before .before .before .before .before .before .before .before .before .pre) (omega arith) (omega arith) _ Unknown (sym (c .before .enum-told .given .1) ∙ c .before .before .before .asked-at .ensures) (rw (c .stay5 .ensures) (c .before .before .before .before .before .before .before .before .before .pre)) (c .stay5 .ensures)
+    let a = c .before .before .before in
+    asks-reads _ _ _ _ Unknown (omega arith) (omega arith) (sym (c .before .enum-told .given .1) ∙ a .asked-at .ensures)
+    (rw (c .stay5 .ensures) (a .before .before .before .before .before .before .pre)) (c .stay5 .ensures)
 
 pub read-spec : {M : Type 1} → statement M
 read-spec =

@@ -38,13 +38,18 @@ mul-put-orders c = search needs
 
 put-orders-requires : tie.Need-put-orders-requires
 put-orders-requires c κs =
-    (search needs, omega (arith, needed (c .before .before .before .before .before .before .before .before .before .before .before), orders-after (c .before .before .before .before .before .before .before .before .before .before .before .before .before .before .before .args .t1), c .before .before .before .before .before .put-jobs .kept .1 .1 .1 .0))
+    let j = c .before .before .before .before .before in
+    let p = j .before .before .before .before .before .before in
+    (search needs, omega (arith, needed p, orders-after (p .before .before .before .before .args .t1), j .put-jobs .kept .1 .1 .1 .0))
 
 same-length : tie.Need-same-length
 same-length c = search needs
 
 returns-2 : tie.Need-returns-2
-returns-2 c = long-writes _ _ _ (needed (c .before .before .before .before .before .before .before .before .before .before .before .before .before .before)) _ _ (c .before .before .before .before .before .before .before .before .before .before .before .before .before .if1 .left) (c .before .before .before .before .before .before .before .before .put-jobs .ensures) (c .before .before .put-orders .ensures)
+returns-2 c =
+    let j = c .before .before .before .before .before .before .before .before in
+    let p = j .before .before .before .before .before .before in
+    long-writes _ _ _ (needed p) _ _ (j .before .before .before .before .before .if1 .left) (j .put-jobs .ensures) (c .before .before .put-orders .ensures)
 
 pub write-spec : {M : Type 1} → statement M
 write-spec =

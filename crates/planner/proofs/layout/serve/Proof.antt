@@ -11,20 +11,22 @@ use Rattle.planner.proofs.layout.serve.Tie as tie
 
 -- the job of a core in this slot
 abbrev seat-at : tie.Start → ℕ → ℕ
-seat-at p = seat 2 (jobs-in (p .args .size) (p .args .start .now) (p .args .before .now)) (row-in (p .args .latest .now)) 4096 (p .args .t .0)
+seat-at s = seat 2 (jobs-in (s .args .size) (s .args .start .now) (s .args .before .now)) (row-in (s .args .latest .now)) 4096 (s .args .stage .next .0)
 
-first : (p : tie.After-next-job) → p .next-job .result .0 ≡ seat-at (p .before) 0
+first : (p : tie.After-next-job) → p .next-job .result .0 ≡ seat-at (p .before .before) 0
 first p =
-    let a = p .before .args in
-    p .next-job .ensures ∙ first-is (a .size) (a .start .now) (a .latest .now) (a .before .now) (a .t .0) (a .slot .now) (a .left) (a .second) (p .before .pre)
+    let s = p .before .before in
+    let a = s .args in
+    p .next-job .ensures ∙ first-is (a .size) (a .start .now) (a .latest .now) (a .before .now) (a .slot .now) (a .stage) (s .pre)
 
-other : (q : tie.After-next-job2) → q .next-job2 .result .0 ≡ seat-at (q .before .before .before .before .before .before) 1
+other : (q : tie.After-next-job2) → q .next-job2 .result .0 ≡ seat-at (q .before .before .before .before .before .before .before) 1
 other q =
     let e = q .before .before .before .before in
     let p = e .before in
-    let a = p .before .args in
+    let s = p .before .before in
+    let a = s .args in
     q .next-job2 .ensures
-    ∙ second-is (a .size) (a .start .now) (a .latest .now) (a .before .now) (a .t .0) (a .slot .now) (a .left) (a .second) (p .before .pre)
+    ∙ second-is (a .size) (a .start .now) (a .latest .now) (a .before .now) (a .slot .now) (a .stage) (s .pre)
     (p .next-job .result .0) (q .before .without .result) (first p) (e .if1 .left) (q .before .without .ensures)
 
 next-job-requires : tie.Need-next-job-requires
@@ -36,12 +38,10 @@ next-start-requires c κs = search needs
 returns : tie.Need-returns
 returns c =
     let p = c .before .before in
-    let a = p .before .args in
-    idle-serves (a .size) (a .start .now) (a .latest .now) (a .before .now) (a .t .0) (a .slot .now) (a .left) (a .second) (p .before .pre)
+    let s = p .before .before in
+    let a = s .args in
+    idle-serves (a .size) (a .start .now) (a .latest .now) (a .before .now) (a .slot .now) (a .stage) (s .pre)
     (p .next-job .result .0) (c .next-start .result .0) (first p) (c .before .if1 .taken) (c .next-start .ensures)
-
-add-slot : tie.Need-add-slot
-add-slot c = search needs
 
 cast-slot : tie.Need-cast-slot
 cast-slot c = search needs
@@ -51,6 +51,9 @@ mul-slot c = search needs
 
 element-write-slot : tie.Need-element-write-slot
 element-write-slot c = search needs
+
+add-slot : tie.Need-add-slot
+add-slot c = search needs
 
 without-requires : tie.Need-without-requires
 without-requires c κs = search needs
@@ -63,8 +66,9 @@ returns-2 c =
     let q = c .before in
     let e = q .before .before .before .before in
     let p = e .before in
-    let a = p .before .args in
-    lone-serves (a .size) (a .start .now) (a .latest .now) (a .before .now) (a .t .0) (a .slot .now) (a .left) (a .second) (p .before .pre)
+    let s = p .before .before in
+    let a = s .args in
+    lone-serves (a .size) (a .start .now) (a .latest .now) (a .before .now) (a .slot .now) (a .stage) (s .pre)
     (p .next-job .result .0) (q .before .without .result) (first p) (e .if1 .left) (q .before .without .ensures)
     (q .next-job2 .result .0) (other q) (c .if2 .taken)
 
@@ -88,8 +92,9 @@ returns-3 c =
     let q = c .before .before .before .before in
     let e = q .before .before .before .before in
     let p = e .before in
-    let a = p .before .args in
-    full-serves (a .size) (a .start .now) (a .latest .now) (a .before .now) (a .t .0) (a .slot .now) (a .left) (a .second) (p .before .pre)
+    let s = p .before .before in
+    let a = s .args in
+    full-serves (a .size) (a .start .now) (a .latest .now) (a .before .now) (a .slot .now) (a .stage) (s .pre)
     (p .next-job .result .0) (q .before .without .result) (first p) (e .if1 .left) (q .before .without .ensures)
     (q .next-job2 .result .0) (other q) (c .before .without2 .result) (c .with .result) (c .before .before .before .if2 .left) (c .before .without2 .ensures) (c .with .ensures)
 
@@ -100,10 +105,10 @@ serve-spec =
     next-job-requires
     next-start-requires
     returns
-    add-slot
     cast-slot
     mul-slot
     element-write-slot
+    add-slot
     without-requires
     next-job-requires-2
     returns-2

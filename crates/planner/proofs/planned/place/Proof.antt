@@ -1,7 +1,7 @@
 -- `planner::planned::place` meets its contract.
 -- Assumes nothing.
-use mathlib.Core.Path.{_≡_, refl, ap, _∙_}
-use Prim.Native.Nat.{_+_, _-_, _≤_}
+use mathlib.Core.Path.{refl, _∙_}
+use Prim.Native.Nat.{_+_, _-_}
 use native.Mathlib.Omega.{arith}
 use Rattle.planner.specs.declared.refusal.Placed.the-variants.{At}
 use Rattle.planner.specs.Unless.{refused, passed}
