@@ -8,7 +8,7 @@ use lib.ListN.{length, take, drop, length-append, length-drop}
 use lib.Seq.{take-at}
 use Rattle.planner.specs.declared.book.Book.{Book}
 use Rattle.planner.specs.declared.refusal.Answer.{Answer}
-use Rattle.planner.specs.Unless.{refused, passed}
+use Rattle.planner.specs.Unless.{Unless, refused, passed}
 use Rattle.jobfile.specs.declared.record.Asked.{Asked}
 use Rattle.jobfile.specs.declared.record.Asked.the-variants.{Known, Unknown}
 use Rattle.jobfile.specs.declared.reader.Event.the-variants as event
@@ -16,7 +16,6 @@ use Rattle.jobfile.specs.declared.reader.Step.{Step}
 use Rattle.jobfile.specs.Record.{asked-at}
 use Rattle.jobfile.specs.Read.{Asks, ReadOutcome}
 use Rattle.jobfile.specs.File.{Pass, halts, goes, Whole, ReadsFile}
-use Rattle.jobfile.proofs.Part.{through}
 use Rattle.jobfile.proofs.Whole.{request-inside}
 
 -- the end and a stop leave the offset
@@ -59,6 +58,11 @@ whole-gathered file k old new r h i w =
       front = front;
       long = ap length front;
     }
+
+-- a check that finds no fault
+through : {A : Type 0} (fault : Type 0) (refusal : A) (next : A → Type 0) (r : A) → (fault → ⊥) → Unless fault refusal next r → next r
+through fault refusal next r f (refused x e) = absurd (f x)
+through fault refusal next r f (passed x y) = y
 
 pub gathered : (file : List ℕ) (k : Book) (old new : List ℕ) (r : Step) → length file ≤ 24576 → length old ≡ 4096 → length new ≡ 4096 →
     ReadsFile k file old new r → Gathered file k r new
