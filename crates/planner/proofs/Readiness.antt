@@ -2,17 +2,16 @@
 -- Assumes nothing.
 use mathlib.Core.Bool.{Bool, not, _&&_, _||_}
 use mathlib.Core.List.{List}
-use mathlib.Core.Logic.{⊎-elim}
 use mathlib.Core.Path.{_≡_, refl, sym, ap₂, subst}
 use Prim.Native.Nat.{ℕ, _<_}
 use native.Mathlib.Omega.{arith}
 use lib.Bits.{bitAnd}
-use lib.Dec.{T, eqb, leb, ltb, eqb→eq, leb→le, le→leb, lt→ltb, ltb→lt, not-T, T-not}
+use lib.Dec.{T, eqb, leb, ltb, eqb→eq, leb→le, le→leb}
 use lib.ListN.{getD}
 use lib.Pow.{pow-pos}
 use Rattle.schedule.specs.Row.{all}
 use Rattle.schedule.specs.Make.{choose, ready, taken}
-use Rattle.schedule.proofs.Tests.{test, and-pair, and-fst, and-snd, or-left, or-right, or-split, eq→eqb, lt-by, same-test}
+use Rattle.schedule.proofs.Tests.{and-pair, and-fst, and-snd, same-test, eq→eqb, lt-by, Says, itself, says-lt, says-then}
 use Rattle.schedule.proofs.Choice.{all-each, each-all}
 use Rattle.schedule.proofs.Loop.{choose-ext}
 use Rattle.planner.specs.Sets.{has}
@@ -32,31 +31,28 @@ none-in x f = digits-same x 0 (λ j. same-test (has x j) (has 0 j) (λ y. absurd
 -- no job of one set is in the other, as a test of each job
 apart-all : (n set undone t : ℕ) (slot-of : ℕ → ℕ) → ((i : ℕ) → i < n → has undone i ≡ leb t (slot-of i)) → ((i : ℕ) → T (has undone i) → i < n) →
     eqb (bitAnd set undone) 0 ≡ all n (λ a. not (has set a) || ltb (slot-of a) t)
-apart-all n set undone t slot-of late held = same-test (eqb (bitAnd set undone) 0) (all n led) (λ x. each-all n led (apart-led x)) (λ x. eq→eqb (bitAnd set undone) 0 (led-apart x))
+apart-all n set undone t slot-of late held = same-test (eqb (bitAnd set undone) 0) (all n earlier) (λ x. each-all n earlier (to x)) (λ x. eq→eqb (bitAnd set undone) 0 (from x))
   where
-    led : ℕ → Bool
-    led a = not (has set a) || ltb (slot-of a) t
+    earlier : ℕ → Bool
+    earlier a = not (has set a) || ltb (slot-of a) t
 
-    both : (j : ℕ) → T (has set j) → T (has undone j) → T (has (bitAnd set undone) j)
-    both j x y = subst T (sym (and-has set undone j)) (and-pair (has set j) (has undone j) x y)
+    says : (a : ℕ) → Says (earlier a) (T (has set a) → slot-of a < t)
+    says a = says-then (itself (has set a)) (says-lt (slot-of a) t)
 
-    apart-led : T (eqb (bitAnd set undone) 0) → (a : ℕ) → a < n → T (led a)
-    apart-led x a l = ⊎-elim
-        (λ y. or-right (not (has set a)) (ltb (slot-of a) t) (lt→ltb (slot-of a) t (lt-by (slot-of a) t (λ le.
-        empty a (subst (λ z. T (has z a)) (eqb→eq (bitAnd set undone) 0 x) (both a y (subst T (sym (late a l)) (le→leb t (slot-of a) le))))))))
-        (λ z. or-left (not (has set a)) (ltb (slot-of a) t) (not-T (has set a) z))
-        (test (has set a))
+    to : T (eqb (bitAnd set undone) 0) → (a : ℕ) → a < n → T (earlier a)
+    to x a l = says a .write (λ y. lt-by (slot-of a) t (λ le.
+        empty a (subst (λ z. T (has z a)) (eqb→eq (bitAnd set undone) 0 x)
+        (subst T (sym (and-has set undone a)) (and-pair (has set a) (has undone a) y (subst T (sym (late a l)) (le→leb t (slot-of a) le)))))))
 
-    led-apart : T (all n led) → bitAnd set undone ≡ 0
-    led-apart x = none-in (bitAnd set undone) (λ j y.
-        let z : T (has set j && has undone j) = subst T (and-has set undone j) y in
-        clash j (and-fst (has set j) (has undone j) z) (and-snd (has set j) (has undone j) z))
-      where
-        clash : (j : ℕ) → T (has set j) → T (has undone j) → ⊥
-        clash j y z = ⊎-elim
-            (λ no-set. T-not (has set j) no-set y)
-            (λ lt. omega (arith, leb→le t (slot-of j) (subst T (late j (held j z)) z), ltb→lt (slot-of j) t lt))
-            (or-split (not (has set j)) (ltb (slot-of j) t) (all-each n led x j (held j z)))
+    from : T (all n earlier) → bitAnd set undone ≡ 0
+    from x = none-in (bitAnd set undone) (λ j y.
+        let both : T (has set j && has undone j) = subst T (and-has set undone j) y in
+        let z : T (has undone j) = and-snd (has set j) (has undone j) both in
+        omega (
+          arith,
+          leb→le t (slot-of j) (subst T (late j (held j z)) z),
+          says j .read (all-each n earlier x j (held j z)) (and-fst (has set j) (has undone j) both),
+        ))
 
 module _ (size : ℕ) (start latest before : List ℕ) (t left undone : ℕ) (slot-of : ℕ → ℕ)
     (free : (i : ℕ) → i < size → has left i ≡ leb 4096 (slot-of i))

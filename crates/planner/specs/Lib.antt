@@ -4,6 +4,6 @@ pub mod Told
 pub mod Unless
 pub mod Answer
 pub mod Outcome
-pub mod Judged
 pub mod Planned
+pub mod Judged
 pub mod Inner

@@ -1,13 +1,14 @@
 // The planner: what a buoy runs. The layers are private; what is public here are the calls of document 01.
 mod book;
 mod chains;
-mod list;
 mod choice;
 mod layout;
+mod list;
 mod planned;
 mod refusal;
 mod sets;
 mod tighten;
+mod times;
 
 pub use book::Applied;
 pub use book::Book;
