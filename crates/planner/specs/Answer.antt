@@ -1,10 +1,14 @@
--- An answer's number and value (01, Numbers of refusal).
+-- An answer's number and value, and the class of a number (01, Numbers of refusal).
 -- Assumes nothing.
 use Prim.Native.Nat.{ℕ}
+use mathlib.Core.Bool.{cond, _||_}
+use lib.Dec.{eqb}
 use Rattle.planner.specs.declared.refusal.Answer.{Answer}
 use Rattle.planner.specs.declared.refusal.Answer.the-variants.{Accepted, Refused}
+use Rattle.planner.specs.declared.refusal.Class.{Class}
+use Rattle.planner.specs.declared.refusal.Class.the-variants.{Room, Request, Plan, Form, None}
 
--- the number of the refusal, and 0 for an accepted request
+-- the number of the refusal, and 0 where nothing is refused
 abbrev pub number-of : Answer → ℕ
 number-of (Accepted value) = 0
 number-of (Refused number value) = number
@@ -13,3 +17,11 @@ number-of (Refused number value) = number
 abbrev pub value-of : Answer → ℕ
 value-of (Accepted value) = value
 value-of (Refused number value) = value
+
+-- "room 1, 8, 9; request 2, 3, 5, 6; plan 4; form 7, 10, 11; every other number has class none"
+abbrev pub class-of : ℕ → Class
+class-of n =
+    cond (eqb n 1 || eqb n 8 || eqb n 9) Room
+    (cond (eqb n 2 || eqb n 3 || eqb n 5 || eqb n 6) Request
+    (cond (eqb n 4) Plan
+    (cond (eqb n 7 || eqb n 10 || eqb n 11) Form None)))

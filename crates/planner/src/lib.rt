@@ -11,3 +11,5 @@ pub use book::Request;
 pub use book::apply;
 pub use book::open;
 pub use refusal::Answer;
+pub use refusal::Class;
+pub use refusal::class_of;
