@@ -2,3 +2,4 @@
 pub mod Chains
 pub mod Tighten
 pub mod Book
+pub mod List

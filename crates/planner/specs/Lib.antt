@@ -4,4 +4,5 @@ pub mod Told
 pub mod Unless
 pub mod Answer
 pub mod Outcome
+pub mod Judged
 pub mod Inner

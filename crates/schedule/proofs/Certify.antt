@@ -6,25 +6,20 @@ use mathlib.Core.Logic.{⊎-elim}
 use mathlib.Core.Path.{_≡_, refl}
 use Prim.Native.Nat.{ℕ, _+_, _-_, _*_, _≤_, _<_}
 use native.Mathlib.Omega.{arith}
-use lib.Dec.{T, eqb, leb, ltb, leb→le, le→leb, ltb→lt, lt→ltb, eqb→eq, T-not}
+use lib.Dec.{T, eqb, leb, ltb}
 use lib.ListN.{length, getD}
 use Rattle.schedule.specs.Row.{put, all}
 use Rattle.schedule.specs.Jobs.{Jobs}
 use Rattle.schedule.specs.Plan.{HasPlan}
 use Rattle.schedule.specs.Times.{Earliest, N, up, Consistent, Breach, left}
 use Rattle.schedule.specs.Listed.{Listed, ordered, Chain, link, join, Looped, Formed, Reads, written}
-use Rattle.schedule.specs.Grow.{Renumbered}
 use Rattle.schedule.specs.Book.{Holds}
-use Rattle.schedule.proofs.Tests.{and-pair, and-fst, and-snd, or-split, eq→eqb}
+use Rattle.schedule.proofs.Tests.{Says, says-and, says-le, says-lt, says-not, says-then, itself, says-eq, says-or}
 use Rattle.schedule.proofs.Early.{raise, raise-least}
 use Rattle.schedule.proofs.Exist.{latest, Bound, bound-start, bound-lower, bound-latest, bound-shut}
 use Rattle.schedule.proofs.Few.{Few, own, other, consistent-few}
-use Rattle.schedule.proofs.Choice.{all-each}
-use Rattle.schedule.proofs.Renumber.{latest-along}
-
--- a test that holds wherever another does
-unless : (a b : Bool) → T (not a || b) → T a → T b
-unless a b t u = ⊎-elim (λ x. absurd (T-not a x u)) (λ x. x) (or-split (not a) b t)
+use Rattle.schedule.proofs.Choice.{says-all}
+use Rattle.schedule.proofs.Renumber.{latest-agrees}
 
 module _ (m : ℕ) (J : Jobs) (early : ℕ → ℕ) where
   -- ---- earliest times: raised, and nowhere above the starts raised n times
@@ -36,79 +31,34 @@ module _ (m : ℕ) (J : Jobs) (early : ℕ → ℕ) where
 
   pub earlyb-sound : (n : ℕ) → T (earlyb n) → Earliest J early
   unfolding earlyb
-  earlyb-sound n t = record {
-    raised = record {
-      above = λ i l. leb→le (J .start i) (early i) (and-fst (leb (J .start i) (early i)) (leb (early i) (raise J n i)) (each i l));
-      apart = λ a b la lb u. leb→le (early a + 1) (early b) (unless (J .before a b) (leb (early a + 1) (early b)) (all-each (J .size) (pair b) (row b lb) a la) u);
-    };
-    least = λ row r i l.
-        omega (arith, leb→le (early i) (raise J n i) (and-snd (leb (J .start i) (early i)) (leb (early i) (raise J n i)) (each i l)), raise-least J row r n i l);
-  }
-    where
-      near : ℕ → Bool
-      near i = leb (J .start i) (early i) && leb (early i) (raise J n i)
-
-      pair : ℕ → ℕ → Bool
-      pair b a = not (J .before a b) || leb (early a + 1) (early b)
-
-      rows : ℕ → Bool
-      rows b = all (J .size) (pair b)
-
-      row : (b : ℕ) → b < J .size → T (rows b)
-      row = all-each (J .size) rows (and-snd (all (J .size) near) (all (J .size) rows) t)
-
-      each : (i : ℕ) → i < J .size → T (near i)
-      each = all-each (J .size) near (and-fst (all (J .size) near) (all (J .size) rows) t)
+  earlyb-sound n t =
+      let near = says-all (J .size) (λ i. says-and (says-le (J .start i) (early i)) (says-le (early i) (raise J n i))) in
+      let pairs = says-all (J .size) (λ b. says-all (J .size) (λ a. says-then (itself (J .before a b)) (says-le (early a + 1) (early b)))) in
+      let x = says-and near pairs .read t in
+      record {
+        raised = record { above = λ i l. x .0 i l .0; apart = λ a b la lb u. x .1 b lb a la u };
+        least = λ row r i l. omega (arith, x .0 i l .1, raise-least J row r n i l);
+      }
 
   -- ---- a breach
   module _ (row : ℕ → ℕ) (i s d : ℕ) where
-    abbrev job : Bool
-    job = ltb i (J .size)
-
-    abbrev from : Bool
-    from = leb (early i) s
-
-    abbrev till : Bool
-    till = leb s (row i)
-
-    abbrev by : Bool
-    by = leb (row i) d
-
-    abbrev full : Bool
-    full = leb (m * (d - s)) (N J early row i s d)
-
-    abbrev over : Bool
-    over = ltb d (row i + up m (N J early row i s d))
-
     unfoldable pub breachb : Bool
     unfolding N up
-    breachb = (job && from) && (till && by) && (full && over)
+    breachb =
+        (ltb i (J .size) && leb (early i) s) && (leb s (row i) && leb (row i) d)
+        && (leb (m * (d - s)) (N J early row i s d) && ltb d (row i + up m (N J early row i s d)))
 
-    pub breachb-read : T breachb → Breach m J early row i s d
+    pub says-breach : Says breachb (Breach m J early row i s d)
     unfolding breachb
-    breachb-read t =
-        let t12 = and-fst ((job && from) && (till && by)) (full && over) t in
-        let t1 = and-fst (job && from) (till && by) t12 in
-        let t2 = and-snd (job && from) (till && by) t12 in
-        let t3 = and-snd ((job && from) && (till && by)) (full && over) t in
+    says-breach =
+        let x = says-and (says-and (says-and (says-lt i (J .size)) (says-le (early i) s)) (says-and (says-le s (row i)) (says-le (row i) d)))
+        (says-and (says-le (m * (d - s)) (N J early row i s d)) (says-lt d (row i + up m (N J early row i s d)))) in
         record {
-          within = record {
-            job = ltb→lt i (J .size) (and-fst job from t1);
-            from = leb→le (early i) s (and-snd job from t1);
-            till = leb→le s (row i) (and-fst till by t2);
-            by = leb→le (row i) d (and-snd till by t2);
-          };
-          full = leb→le (m * (d - s)) (N J early row i s d) (and-fst full over t3);
-          over = ltb→lt d (row i + up m (N J early row i s d)) (and-snd full over t3);
+          read = λ t.
+              let y = x .read t in
+              record { within = record { job = y .0 .0 .0; from = y .0 .0 .1; till = y .0 .1 .0; by = y .0 .1 .1 }; full = y .1 .0; over = y .1 .1 };
+          write = λ b. x .write (((b .within .job, b .within .from), (b .within .till, b .within .by)), (b .full, b .over));
         }
-
-    pub breachb-write : Breach m J early row i s d → T breachb
-    unfolding breachb
-    breachb-write b =
-        and-pair ((job && from) && (till && by)) (full && over)
-        (and-pair (job && from) (till && by) (and-pair job from (lt→ltb i (J .size) (b .within .job)) (le→leb (early i) s (b .within .from)))
-        (and-pair till by (le→leb s (row i) (b .within .till)) (le→leb (row i) d (b .within .by))))
-        (and-pair full over (le→leb (m * (d - s)) (N J early row i s d) (b .full)) (lt→ltb d (row i + up m (N J early row i s d)) (b .over)))
 
   -- ---- the triples of a certificate, one after the other
   unfoldable pub lowered : List (ℕ × ℕ × ℕ) → (ℕ → ℕ) → ℕ → ℕ
@@ -129,12 +79,8 @@ module _ (m : ℕ) (J : Jobs) (early : ℕ → ℕ) where
     stepsb-sound (x ∷ steps) row t b =
         let i : ℕ = x .0 in
         let next : ℕ → ℕ = put row i (left m J early row i (x .1) (x .2)) in
-        let here = breachb row i (x .1) (x .2) in
-        let some = not (eqb (row i) 0) in
-        let two = and-fst (here && some) (stepsb steps next) t in
-        stepsb-sound steps next (and-snd (here && some) (stepsb steps next) t)
-        (bound-lower m J early due e pos row b i (x .1) (x .2) (breachb-read row i (x .1) (x .2) (and-fst here some two))
-        (λ z. T-not (eqb (row i) 0) (and-snd here some two) (eq→eqb (row i) 0 z)))
+        let y = says-and (says-and (says-breach row i (x .1) (x .2)) (says-not (says-eq (row i) 0))) (itself (stepsb steps next)) .read t in
+        stepsb-sound steps next (y .1) (bound-lower m J early due e pos row b i (x .1) (x .2) (y .0 .0) (y .0 .1))
 
   -- ---- windows open, and no breach among the few
   unfoldable pub fewb : (ℕ → ℕ) → Bool
@@ -145,27 +91,16 @@ module _ (m : ℕ) (J : Jobs) (early : ℕ → ℕ) where
 
   pub fewb-sound : 1 ≤ m → (row : ℕ → ℕ) → T (fewb row) → Consistent m J early row
   unfolding fewb
-  fewb-sound pos row t =
-      consistent-few m pos J early row (λ i l. leb→le (early i + 1) (row i) (and-fst (leb (early i + 1) (row i)) (all (J .size) (ks i)) (each i l))) none
+  fewb-sound pos row t = consistent-few m pos J early row (λ i l. x i l .0) none
     where
-      js : ℕ → ℕ → ℕ → Bool
-      js i k j = not (breachb row i (early j) (row k))
-
-      ks : ℕ → ℕ → Bool
-      ks i k = not (breachb row i (row i) (row k)) && all (J .size) (js i k)
-
-      each : (i : ℕ) → i < J .size → T (leb (early i + 1) (row i) && all (J .size) (ks i))
-      each = all-each (J .size) (λ i. leb (early i + 1) (row i) && all (J .size) (ks i)) t
-
-      at : (i k : ℕ) → i < J .size → k < J .size → T (ks i k)
-      at i k li lk = all-each (J .size) (ks i) (and-snd (leb (early i + 1) (row i)) (all (J .size) (ks i)) (each i li)) k lk
+      x : (i : ℕ) → i < J .size → (early i + 1 ≤ row i) × ((k : ℕ) → k < J .size →
+          (Breach m J early row i (row i) (row k) → ⊥) × ((j : ℕ) → j < J .size → Breach m J early row i (early j) (row k) → ⊥))
+      x = says-all (J .size) (λ i. says-and (says-le (early i + 1) (row i)) (says-all (J .size) (λ k.
+          says-and (says-not (says-breach row i (row i) (row k))) (says-all (J .size) (λ j. says-not (says-breach row i (early j) (row k))))))) .read t
 
       none : (i : ℕ) → i < J .size → Few m J early row i → ⊥
-      none i l (own k lk b) =
-          T-not (breachb row i (row i) (row k)) (and-fst (not (breachb row i (row i) (row k))) (all (J .size) (js i k)) (at i k l lk)) (breachb-write row i (row i) (row k) b)
-      none i l (other j k lj lk b) =
-          T-not (breachb row i (early j) (row k)) (all-each (J .size) (js i k) (and-snd (not (breachb row i (row i) (row k))) (all (J .size) (js i k)) (at i k l lk)) j lj)
-          (breachb-write row i (early j) (row k) b)
+      none i l (own k lk b) = x i l .1 k lk .0 b
+      none i l (other j k lj lk b) = x i l .1 k lk .1 j lj b
 
 -- ---- lists whose orders are themselves closed
 unfoldable pub heldb : ℕ → List (ℕ × ℕ) → Bool
@@ -176,34 +111,24 @@ heldb-sound : (n : ℕ) (o : List (ℕ × ℕ)) → T (heldb n o) → (a b : ℕ
 unfolding heldb ordered
 heldb-sound n [] t a b u = absurd u
 heldb-sound n (p ∷ o) t a b u =
-    ⊎-elim here (λ v. heldb-sound n o (and-snd (ltb (p .0) n && ltb (p .1) n) (heldb n o) t) a b v) (or-split (eqb (p .0) a && eqb (p .1) b) (ordered o a b) u)
-  where
-    here : T (eqb (p .0) a && eqb (p .1) b) → (a < n) × (b < n)
-    here v =
-        let w = and-fst (ltb (p .0) n && ltb (p .1) n) (heldb n o) t in (
-          omega (arith, eqb→eq (p .0) a (and-fst (eqb (p .0) a) (eqb (p .1) b) v), ltb→lt (p .0) n (and-fst (ltb (p .0) n) (ltb (p .1) n) w)),
-          omega (arith, eqb→eq (p .1) b (and-snd (eqb (p .0) a) (eqb (p .1) b) v), ltb→lt (p .1) n (and-snd (ltb (p .0) n) (ltb (p .1) n) w)),
-        )
+    let x = says-and (says-and (says-lt (p .0) n) (says-lt (p .1) n)) (itself (heldb n o)) .read t in
+    ⊎-elim (λ v. (omega (arith, v .0, x .0 .0), omega (arith, v .1, x .0 .1))) (λ v. heldb-sound n o (x .1) a b v)
+    (says-or (says-and (says-eq (p .0) a) (says-eq (p .1) b)) (itself (ordered o a b)) .read u)
 
 module _ (o : List (ℕ × ℕ)) where
-  abbrev joint : ℕ → ℕ → ℕ → Bool
-  joint a b c = not (ordered o a b && ordered o b c) || ordered o a c
-
   unfoldable pub closedb : ℕ → Bool
   unfolding all ordered
-  closedb n = all n (λ a. all n (λ b. all n (joint a b)))
+  closedb n = all n (λ a. all n (λ b. all n (λ c. not (ordered o a b && ordered o b c) || ordered o a c)))
 
   module _ (n : ℕ) (held : (a b : ℕ) → T (ordered o a b) → (a < n) × (b < n)) (t : T (closedb n)) where
-    flat-joins : (a b c : ℕ) → T (ordered o a b) → T (ordered o b c) → T (ordered o a c)
-    unfolding closedb
-    flat-joins a b c u v =
-        unless (ordered o a b && ordered o b c) (ordered o a c)
-        (all-each n (joint a b) (all-each n (λ b. all n (joint a b)) (all-each n (λ a. all n (λ b. all n (joint a b))) t a (held a b u .0)) b (held a b u .1)) c (held b c v .1))
-        (and-pair (ordered o a b) (ordered o b c) u v)
-
     pub flat-chain : {a b : ℕ} → Chain o a b → T (ordered o a b)
+    unfolding closedb
     flat-chain (link t) = t
-    flat-chain (join {a = a} {b = b} {c = c} s t) = flat-joins a b c (flat-chain s) (flat-chain t)
+    flat-chain (join {a = a} {b = b} {c = c} x y) =
+        let u = flat-chain x in
+        let v = flat-chain y in
+        says-all n (λ a. says-all n (λ b. says-all n (λ c. says-then (says-and (itself (ordered o a b)) (itself (ordered o b c))) (itself (ordered o a c)))))
+        .read t a (held a b u .0) b (held a b u .1) c (held b c v .1) (u, v)
 
 unfoldable pub formb : Listed → Bool
 unfolding heldb closedb
@@ -265,35 +190,26 @@ module _ (x : Certificate) where
   refuseb i = soundb && ltb i n && ltb (led i) (early i + 1)
 
   module _ (t : T soundb) where
-    well-formed : T (formb (x .list))
+    parts : (T (formb (x .list)) × T (earlyb 2 J early (x .depth))) × T (stepsb 2 J early (x .steps) due)
     unfolding soundb
-    well-formed =
-        and-fst (formb (x .list)) (earlyb 2 J early (x .depth)) (and-fst (formb (x .list) && earlyb 2 J early (x .depth)) (stepsb 2 J early (x .steps) due) t)
+    parts = says-and (says-and (itself (formb (x .list))) (itself (earlyb 2 J early (x .depth)))) (itself (stepsb 2 J early (x .steps) due)) .read t
 
     earliest : Earliest J early
-    unfolding soundb
-    earliest =
-        earlyb-sound 2 J early (x .depth)
-        (and-snd (formb (x .list)) (earlyb 2 J early (x .depth)) (and-fst (formb (x .list) && earlyb 2 J early (x .depth)) (stepsb 2 J early (x .steps) due) t))
+    earliest = earlyb-sound 2 J early (x .depth) (parts .0 .1)
 
     bound : Bound 2 J early due led
-    unfolding soundb led
-    bound =
-        stepsb-sound 2 J early earliest (omega arith) due (x .steps) due (and-snd (formb (x .list) && earlyb 2 J early (x .depth)) (stepsb 2 J early (x .steps) due) t)
-        (bound-start 2 J early due earliest (omega arith))
+    unfolding led
+    bound = stepsb-sound 2 J early earliest (omega arith) due (x .steps) due (parts .1) (bound-start 2 J early due earliest (omega arith))
+
+    form : ((length (x .list .deadlines) ≡ n) × T (heldb n o)) × T (closedb o n)
+    unfolding formb
+    form = says-and (says-and (says-eq (length (x .list .deadlines)) n) (itself (heldb n o))) (itself (closedb o n)) .read (parts .0 .0)
 
     formed : Formed (x .list)
-    unfolding formb
-    formed =
-        let two = and-fst (eqb (length (x .list .deadlines)) n && heldb n o) (closedb o n) well-formed in
-        record {
-          even = eqb→eq (length (x .list .deadlines)) n (and-fst (eqb (length (x .list .deadlines)) n) (heldb n o) two);
-          held = heldb-sound n o (and-snd (eqb (length (x .list .deadlines)) n) (heldb n o) two);
-        }
+    formed = record { even = form .0 .0; held = heldb-sound n o (form .0 .1) }
 
     chain : {a b : ℕ} → Chain o a b → T (ordered o a b)
-    unfolding formb
-    chain c = flat-chain o n (formed .held) (and-snd (eqb (length (x .list .deadlines)) n && heldb n o) (closedb o n) well-formed) c
+    chain c = flat-chain o n (formed .held) (form .1) c
 
     reads : Reads (x .list) J
     reads = record { size = refl; start = λ i l. refl; before = λ a b la lb. ((λ u. link u), (λ c. chain c)) }
@@ -307,45 +223,29 @@ module _ (x : Certificate) where
   -- what is accepted is held by a book
   pub accept-sound : (times : List ℕ) → T (acceptb times) → Holds 2 (x .list) J (entry times)
   unfolding acceptb
-  accept-sound times t = record {
-    formed = formed u;
-    loopless = loopless u;
-    reads = reads u;
-    early = early;
-    earliest = earliest u;
-    latest = latest-along 2 J J (λ i. i) (λ i. i) self early early due due led (entry times) (λ i l. refl) (λ i l. refl) same
-        (bound-latest 2 J early due (earliest u) (omega arith) led (bound u) (fewb-sound 2 J early (omega arith) led (and-snd soundb few v)));
-  }
-    where
-      few : Bool
-      few = fewb 2 J early led
-
-      equal : ℕ → Bool
-      equal i = eqb (entry times i) (led i)
-
-      v : T (soundb && few)
-      v = and-fst (soundb && few) (all n equal) t
-
-      u : T soundb
-      u = and-fst soundb few v
-
-      same : (i : ℕ) → i < n → entry times i ≡ led i
-      same i l = eqb→eq (entry times i) (led i) (all-each n equal (and-snd (soundb && few) (all n equal) t) i l)
-
-      self : Renumbered J J (λ i. i) (λ i. i)
-      self = record { size = refl; of-held = λ i l. l; to-held = λ i l. l; of-to = λ i l. refl; to-of = λ i l. refl; starts = λ i l. refl; chains = λ a b la lb. refl }
+  accept-sound times t =
+      let v = says-and (says-and (itself soundb) (itself (fewb 2 J early led))) (says-all n (λ i. says-eq (entry times i) (led i))) .read t in
+      let u = v .0 .0 in
+      record {
+        formed = formed u;
+        loopless = loopless u;
+        reads = reads u;
+        early = early;
+        earliest = earliest u;
+        latest = latest-agrees 2 J early early due due led (entry times) (λ i l. refl) (λ i l. refl) (v .1)
+            (bound-latest 2 J early due (earliest u) (omega arith) led (bound u) (fewb-sound 2 J early (omega arith) led (v .0 .1)));
+      }
 
   -- what is refused has no plan
   pub refuse-sound : (i : ℕ) → T (refuseb i) → Refused (x .list)
   unfolding refuseb
   refuse-sound i t =
-      let v = and-fst (soundb && ltb i n) (ltb (led i) (early i + 1)) t in
-      let u = and-fst soundb (ltb i n) v in
+      let v = says-and (says-and (itself soundb) (says-lt i n)) (says-lt (led i) (early i + 1)) .read t in
+      let u = v .0 .0 in
       record {
         formed = formed u;
         loopless = loopless u;
         jobs = J;
         reads = reads u;
-        none = bound-shut 2 J early due (earliest u) (omega arith) led (bound u) i (ltb→lt i n (and-snd soundb (ltb i n) v))
-            (ltb→lt (led i) (early i + 1) (and-snd (soundb && ltb i n) (ltb (led i) (early i + 1)) t)) .no-plan;
+        none = bound-shut 2 J early due (earliest u) (omega arith) led (bound u) i (v .0 .1) (v .1) .no-plan;
       }

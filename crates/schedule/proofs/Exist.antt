@@ -9,7 +9,7 @@ use native.Mathlib.Omega.{arith}
 use Rattle.schedule.specs.Row.{put}
 use Rattle.schedule.specs.Jobs.{Jobs}
 use Rattle.schedule.specs.Plan.{Valid, Meets, HasPlan}
-use Rattle.schedule.specs.Times.{Earliest, N, up, Consistent, Breach, left, Beneath, HasRow, Latest}
+use Rattle.schedule.specs.Times.{Earliest, N, up, Consistent, Breach, left, Beneath, HasRow, Latest, Full, Open}
 use Rattle.schedule.proofs.Tests.{le-by}
 use Rattle.schedule.proofs.Search.{decAny}
 use Rattle.schedule.proofs.Rows.{sum, put-le, put-falls}
@@ -71,7 +71,7 @@ module _ (m : ℕ) (J : Jobs) (early due : ℕ → ℕ) (e : Earliest J early) (
     }
 
     -- no slot beyond s + size is full
-    near : (i s d : ℕ) → m * (d - s) ≤ N J early row i s d → d < suc (s + J .size)
+    near : (i s d : ℕ) → Full m J early row i s d → d < suc (s + J .size)
     near i s d f =
         let x : 1 * (d - s) ≤ m * (d - s) = mul-le-mul-right (d - s) pos in
         omega (arith, N-bound J early row i s d)
@@ -86,7 +86,7 @@ module _ (m : ℕ) (J : Jobs) (early due : ℕ → ℕ) (e : Earliest J early) (
     decBroken =
         decAny (J .size) AtS (λ i. decAny (suc (row i)) (AtD i) (λ s. decAny (suc (s + J .size)) (λ d. Breach m J early row i s d) (λ d. decBreach m J early row i s d)))
 
-    rules : ((i : ℕ) → i < J .size → early i + 1 ≤ row i) → Dec ((i : ℕ) × (i < J .size) × AtS i) → Step m J early due row
+    rules : Open J early row → Dec ((i : ℕ) × (i < J .size) × AtS i) → Step m J early due row
     rules w (yes x) = broken (x .0) (x .2 .0) (x .2 .2 .0) (x .2 .2 .2)
       where
         broken : (i s d : ℕ) → Breach m J early row i s d → Step m J early due row
@@ -124,13 +124,6 @@ module _ (m : ℕ) (J : Jobs) (early due : ℕ → ℕ) (e : Earliest J early) (
       go : Verdict m J early due → (row : ℕ → ℕ) × Latest m J early due row × Meets J row slot
       go (latest row x f) = (row, x, f slot v k)
       go (hopeless x) = absurd (x .no-plan (slot, v, k))
-
-  pub row-has-latest : (low : ℕ → ℕ) → Consistent m J early low → Beneath J low due → (row : ℕ → ℕ) × Latest m J early due row
-  row-has-latest low c h = go verdict
-    where
-      go : Verdict m J early due → (row : ℕ → ℕ) × Latest m J early due row
-      go (latest row x f) = (row, x)
-      go (hopeless x) = absurd (x .no-row (low, c, h))
 
 -- there is one latest row
 pub latest-one : (m : ℕ) (J : Jobs) (early due row other : ℕ → ℕ) → Latest m J early due row → Latest m J early due other → (i : ℕ) → i < J .size → row i ≡ other i

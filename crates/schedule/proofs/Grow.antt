@@ -9,7 +9,7 @@ use lib.Dec.{eqb}
 use Rattle.schedule.specs.Row.{put}
 use Rattle.schedule.specs.Jobs.{Jobs, Closed}
 use Rattle.schedule.specs.Plan.{Valid, Meets}
-use Rattle.schedule.specs.Times.{Earliest, N, Within, Consistent, Beneath, Latest}
+use Rattle.schedule.specs.Times.{Earliest, N, Within, Consistent, Beneath, Latest, Full}
 use Rattle.schedule.specs.Grow.{Extends, Added, Linked}
 use Rattle.schedule.proofs.Tests.{le-or-lt}
 use Rattle.schedule.proofs.Counting.{count-longer}
@@ -86,13 +86,13 @@ module _ (J K : Jobs) (x : Extends J K) where
           late = ⊎-elim (λ t. inl (x .chains i j l h t)) (λ y. inr (le-trans y (early-grows early early′ e f j h))) (p .late);
         })
 
-        late : (i s d : ℕ) → Within J early row i s d → m * (d - s) ≤ N J early row i s d → early′ i ≤ s → N J early row i s d ≤ m * (d - row i)
+        late : (i s d : ℕ) → Within J early row i s d → Full m J early row i s d → early′ i ≤ s → N J early row i s d ≤ m * (d - row i)
         late i s d w full y =
             let n = more i s d (w .job) in
             le-trans n (ruled m pos K early′ row c i s d (record { job = within i (w .job); from = y; till = w .till; by = w .by }) (le-trans full n))
 
         -- the plan leaves no such triple
-        soon : (i s d : ℕ) → Within J early row i s d → m * (d - s) ≤ N J early row i s d → s < early′ i → ⊥
+        soon : (i s d : ℕ) → Within J early row i s d → Full m J early row i s d → s < early′ i → ⊥
         soon i s d w full y =
             let q = meets-back row slot k in
             let n = rule-sound m J early row slot e (plan-back m slot v) q i s d (w .job) (w .by) full in

@@ -1,4 +1,4 @@
--- The whole result at a glance. 1 ≤ m throughout; m ≤ 2 where a plan must be made from a row.
+-- The whole result at a glance, (0) to (vii). 1 ≤ m throughout; m ≤ 2 where a plan must be made from a row.
 -- Assumes nothing.
 use mathlib.Core.Logic.{_↔_, _⊎_, inl, inr}
 use mathlib.Core.Path.{_≡_, refl}
@@ -18,9 +18,9 @@ use Rattle.schedule.proofs.Exist.{Verdict, latest, hopeless, verdict, p
 use Rattle.schedule.proofs.Few.{Few, breach-few}
 use Rattle.schedule.proofs.Made.{made-valid, made-meets, made-in-time, row-has-plan}
 use Rattle.schedule.proofs.Seats.{placed-seat, placed-settled}
+use Rattle.schedule.proofs.Chains.{reads-closed, reads-loopless, jobs, jobs-reads}
 use Rattle.schedule.proofs.Grow.{Drawn, extends-self, added-extends, linked-extends, times-drawn, put-drawn, put-sooner, same-plans, resume, latest-falls}
 use Rattle.schedule.proofs.Renumber.{earliest-along, latest-along}
-use Rattle.schedule.proofs.Chains.{reads-closed, reads-loopless, jobs, jobs-reads}
 
 -- (0) a list with no loop means jobs that are closed and have earliest times
 pub list-has-times : (L : Listed) → Formed L → (Looped L → ⊥) → (J : Jobs) × Reads L J × Closed J × ((early : ℕ → ℕ) × Earliest J early)

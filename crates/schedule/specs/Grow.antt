@@ -1,4 +1,4 @@
--- A list that grows, and a list renumbered.
+-- Jobs enlarged by a request, and jobs renumbered.
 -- Assumes nothing.
 use mathlib.Core.Logic.{_↔_, _⊎_}
 use mathlib.Core.Path.{_≡_}

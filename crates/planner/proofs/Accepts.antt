@@ -1,0 +1,170 @@
+-- A request that passes its checks, and leaves a list that has a plan, has an outcome, and is accepted.
+-- Assumes nothing.
+use mathlib.Core.Bool.{Bool, true, false, cond, _||_}
+use mathlib.Core.List.{List, [], _∷_}
+use mathlib.Core.Logic.{_⊎_, inl, inr, ⊎-elim}
+use mathlib.Core.Path.{_≡_, refl, sym, ap, subst, _∙_}
+use Prim.Native.Nat.{ℕ, zero, suc, _+_, _≤_, _<_}
+use native.Mathlib.Nat.{not-suc-le-zero, le-of-suc-le-suc}
+use native.Mathlib.Omega.{arith}
+use borrow.Author.Tests.{lt-ltb, le-ltb}
+use lib.Bits.{bitOr}
+use lib.Dec.{T, eqb, eqb→eq, ltb}
+use lib.ListN.{length, getD, set, List·getD-eq-default}
+use Rattle.schedule.specs.Jobs.{Jobs}
+use Rattle.schedule.specs.Times.{Latest}
+use Rattle.schedule.specs.Listed.{Listed, Chain, written, with-job, with-order}
+use Rattle.schedule.proofs.Tests.{test, le-or-lt, cond-case, or-left, or-right, or-split, eq→eqb}
+use Rattle.schedule.proofs.Exist.{plan-has-latest}
+use Rattle.schedule.proofs.Early.{earliest-one}
+use Rattle.schedule.proofs.Renumber.{latest-along}
+use Rattle.planner.specs.declared.book.Book.{Book}
+use Rattle.planner.specs.declared.book.Request.{Request}
+use Rattle.planner.specs.declared.book.Request.the-variants.{Job, Before}
+use Rattle.planner.specs.declared.book.Applied.{Applied}
+use Rattle.planner.specs.Sets.{has}
+use Rattle.planner.specs.Told.{jobs-of, latest-of, row-in, Told}
+use Rattle.planner.specs.Unless.{passed}
+use Rattle.planner.specs.Outcome.{Planned, acceptance, Judged, Applies}
+use Rattle.planner.specs.Inner.Book.{Tight, fits, with-latest}
+use Rattle.planner.specs.Inner.Chains.{Links, Joins}
+use Rattle.planner.proofs.Bits.{only, with-has}
+use Rattle.planner.proofs.Same.{reads-one, plan-one}
+use Rattle.planner.proofs.Once.{applies-by}
+use Rattle.planner.proofs.Step.{Grows, size-is, job-grows, order-grows, followed-told, told-judged, settled-judged}
+use Rattle.planner.proofs.Join.{or-joins, none-joins, links-by}
+
+-- ---- a list by its entries
+from : ℕ → (ℕ → ℕ) → List ℕ
+from zero f = []
+from (suc n) f = f 0 ∷ from n (λ i. f (suc i))
+
+from-length : (n : ℕ) (f : ℕ → ℕ) → length (from n f) ≡ n
+unfolding from
+from-length zero f = refl
+from-length (suc n) f = ap suc (from-length n (λ i. f (suc i)))
+
+from-at : (n : ℕ) (f : ℕ → ℕ) (i : ℕ) → i < n → getD (from n f) i 0 ≡ f i
+unfolding from
+from-at zero f i l = absurd (not-suc-le-zero l)
+from-at (suc n) f zero l = refl
+from-at (suc n) f (suc i) l = from-at n (λ i. f (suc i)) i (le-of-suc-le-suc l)
+
+-- ---- the latest times of a grown book, in a row of 64
+tight-exists : (L : Listed) (grown : Book) → Grows L grown → Planned L → (row : List ℕ) × Tight grown row
+tight-exists L grown g p = (
+  from 64 entry,
+  record {
+    size = from-length 64 entry;
+    rest = λ i l. ⊎-elim (λ le. List·getD-eq-default (from 64 entry) 0 (omega (arith, from-length 64 entry))) (λ lt. from-at 64 entry i lt ∙ simp (le-ltb i (grown .size) l)) (le-or-lt 64 i);
+    latest = λ early e. latest-along 2 J J (λ i. i) (λ i. i) (reads-one L J J (g .reads) (g .reads)) (g .early) early (latest-of grown) (latest-of grown) (x .0) (row-in (from 64 entry))
+        (λ i l. earliest-one J early (g .early) e (g .earliest) i l) (λ i l. refl)
+        (λ i l. from-at 64 entry i (omega (arith, g .shaped .few)) ∙ simp (lt-ltb i (grown .size) l)) (x .1);
+  },
+)
+  where
+    J : Jobs
+    J = jobs-of grown
+
+    x : (row : ℕ → ℕ) × Latest 2 (jobs-of grown) (g .early) (latest-of grown) row
+    x =
+        let plan = g .plans (plan-one 2 L (p .0) (jobs-of grown) (written L) (p .1) (g .reads) (p .2)) in
+        let y = plan-has-latest 2 (jobs-of grown) (g .early) (latest-of grown) (g .earliest) (omega arith) (plan .0) (plan .1) (plan .2) in
+        (y .0, y .1)
+
+    entry : ℕ → ℕ
+    entry i = cond (ltb i (grown .size)) (x .0 i) 0
+
+-- ---- rows joined by an order
+links-exist : (old : List ℕ) (a b : ℕ) → length old ≡ 64 → a < 64 → b < 64 → (new : List ℕ) × (length new ≡ 64) × Links a b old new
+links-exist old a b l la lb = (
+  from 64 joined,
+  from-length 64 joined,
+  links-by old (from 64 joined) a b more l (from-length 64 joined) lb (λ x. with-has (getD old a 0) a x la)
+      (λ y ly. subst (λ n. Joins (getD old y 0) y b more n) (sym (from-at 64 joined y ly)) (joins y)),
+)
+  where
+    more : ℕ
+    more = bitOr (getD old a 0) (only a)
+
+    meets : ℕ → Bool
+    meets y = eqb b y || has (getD old y 0) b
+
+    joined : ℕ → ℕ
+    joined y = cond (meets y) (bitOr (getD old y 0) more) (getD old y 0)
+
+    no : (q : Bool) → (T q → ⊥) → q ≡ false
+    no true f = absurd (f tt)
+    no false f = refl
+
+    joins : (y : ℕ) → Joins (getD old y 0) y b more (joined y)
+    joins y = cond-case (λ n. Joins (getD old y 0) y b more n) (meets y) (bitOr (getD old y 0) more) (getD old y 0)
+        (λ t. or-joins (getD old y 0) y b more (⊎-elim (λ u. inl (eqb→eq b y u)) (λ u. inr u) (or-split (eqb b y) (has (getD old y 0) b) t)))
+        (λ f. none-joins (getD old y 0) y b more (λ e. f (or-left (eqb b y) (has (getD old y 0) b) (eq→eqb b y (sym e))))
+        (no (has (getD old y 0) b) (λ t. f (or-right (eqb b y) (has (getD old y 0) b) t))))
+
+-- ---- the outcome
+pub record Accepts (k : Book) (q : Request) : Type 0 where
+  pub next : Book
+  pub value : ℕ
+  pub applies : Applies k q (acceptance next value)
+
+module _ (L : Listed) (k : Book) (t : Told k L) where
+  -- a new job
+  pub job-accepted : (s d : ℕ) → k .size < 64 → s ≤ 4095 → d ≤ 4096 → s < d → Planned (with-job L s d) → Accepts k (Job s d)
+  job-accepted s d room low high less plan =
+      record {
+        next = with-latest grown (x .0);
+        value = k .size;
+        applies = applies-by k (Job s d) r (L, t) (λ M u.
+            passed (λ f. omega (arith, size-is M k u)) (passed (λ f. ⊎-elim (λ g. omega arith) (λ g. omega arith) f) (passed (λ f. omega arith)
+            (subst (λ n. Judged (with-job M s d) n k r) (size-is M k u) (settled-judged (with-job M s d) k grown (k .size) r (job-grows M k u s d room low high) (fits (x .0) (x .1) refl))))));
+      }
+    where
+      grown : Book
+      grown = record { size = k .size + 1; start = set (k .start) (k .size) s; latest = set (k .latest) (k .size) d; before = k .before }
+
+      x : (row : List ℕ) × Tight grown row
+      x = tight-exists (with-job L s d) grown (job-grows L k t s d room low high) plan
+
+      r : Applied
+      r = acceptance (with-latest grown (x .0)) (k .size)
+
+  -- an order of two jobs
+  pub order-accepted : (a b : ℕ) → a < k .size → b < k .size → ((a ≡ b) ⊎ Chain (L .orders) b a → ⊥) → Planned (with-order L a b) → Accepts k (Before (record { 0 = a }) (record { 0 = b }))
+  order-accepted a b la lb none plan = go (test (has (getD (k .before) b 0) a))
+    where
+      free : T (has (getD (k .before) a 0) b) → ⊥
+      free x = none (inr (t .holds .reads .before b a lb la .0 x))
+
+      held : (M : Listed) → Told k M → (length (M .starts) ≤ a) ⊎ (length (M .starts) ≤ b) → ⊥
+      held M u f = ⊎-elim (λ g. omega (arith, size-is M k u)) (λ g. omega (arith, size-is M k u)) f
+
+      clear : (M : Listed) → Told k M → (a ≡ b) ⊎ Chain (M .orders) b a → ⊥
+      clear M u f = ⊎-elim (λ e. none (inl e)) (λ c. free (u .holds .reads .before b a lb la .1 c)) f
+
+      rows : (new : List ℕ) × (length new ≡ 64) × Links a b (k .before) new
+      rows = links-exist (k .before) a b (t .shaped .befores) (omega (arith, t .shaped .few)) (omega (arith, t .shaped .few))
+
+      grown : Book
+      grown = record { size = k .size; start = k .start; latest = k .latest; before = rows .0 }
+
+      grows : (M : Listed) → Told k M → Grows (with-order M a b) grown
+      grows M u = order-grows M k u a b la lb (rows .0) (rows .1) (rows .2) (λ e. none (inl e)) free
+
+      x : (row : List ℕ) × Tight grown row
+      x = tight-exists (with-order L a b) grown (grows L t) plan
+
+      go : T (has (getD (k .before) b 0) a) ⊎ (T (has (getD (k .before) b 0) a) → ⊥) → Accepts k (Before (record { 0 = a }) (record { 0 = b }))
+      go (inl old) = record {
+        next = k;
+        value = 0;
+        applies = applies-by k _ _ (L, t) (λ M u.
+            passed (held M u) (passed (clear M u) (told-judged (with-order M a b) 0 k (acceptance k 0) refl (followed-told M k u a b la lb old))));
+      }
+      go (inr new) = record {
+        next = with-latest grown (x .0);
+        value = 0;
+        applies = applies-by k _ _ (L, t) (λ M u.
+            passed (held M u) (passed (clear M u) (settled-judged (with-order M a b) k grown 0 (acceptance (with-latest grown (x .0)) 0) (grows M u) (fits (x .0) (x .1) refl))));
+      }

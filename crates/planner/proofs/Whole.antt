@@ -1,0 +1,100 @@
+-- A whole list: what its checks leave, one after the other.
+-- Assumes nothing.
+use mathlib.Core.List.{List}
+use mathlib.Core.Logic.{inl, inr, ⊎-elim}
+use mathlib.Core.Path.{_≡_, refl, sym}
+use Prim.Native.Nat.{ℕ, _/_, _≤_, _<_}
+use native.Mathlib.Omega.{arith}
+use lib.ListN.{length, getD}
+use Rattle.schedule.specs.Jobs.{Jobs}
+use Rattle.schedule.specs.Times.{Earliest, Latest}
+use Rattle.schedule.specs.Listed.{Listed, Looped, Formed, Reads, written}
+use Rattle.schedule.specs.Book.{Holds}
+use Rattle.schedule.proofs.Tests.{le-by}
+use Rattle.schedule.proofs.Early.{exists-earliest}
+use Rattle.schedule.proofs.Chains.{chain-held, reads-closed, reads-loopless}
+use Rattle.schedule.proofs.Renumber.{latest-along}
+use Rattle.planner.specs.declared.refusal.Answer.{Answer}
+use Rattle.planner.specs.Told.{jobs-in, row-in}
+use Rattle.planner.specs.Unless.{Unless, refused, passed}
+use Rattle.planner.specs.Outcome.{Planned}
+use Rattle.planner.specs.Judged.{list-of, Unsound, number-for, Looping, turned-down, Fitted}
+use Rattle.planner.specs.Inner.List.{First, Numbers, Held, Spells, Settleable, Settles, none, fits}
+use Rattle.planner.proofs.Same.{reads-one, plan-one}
+use Rattle.planner.proofs.Step.{holds-planned}
+use Rattle.planner.proofs.Pairs.{pairs-held, pairs-loopless}
+
+-- ---- a check of every place that found none
+pub none-at : (n : ℕ) (fault : ℕ → Type 0) (p : ℕ) → First n fault p → n ≤ p → (i : ℕ) → i < n → fault i → ⊥
+none-at n fault p f l i h = f .clear i (omega arith)
+
+-- the number of a job that has a fault
+pub number-is : (start deadline r : ℕ) → Numbers start deadline r → Unsound start deadline → r ≡ number-for start deadline
+number-is start deadline r n u = n .some (λ e. n .none e u) .1
+
+-- ---- what the checks before the last leave
+pub record Sound (starts deadlines pairs : List ℕ) : Type 0 where
+  pub even : length starts ≡ length deadlines
+  pub few : length starts ≤ 64
+  pub jobs : (i : ℕ) → i < length starts → Unsound (getD starts i 0) (getD deadlines i 0) → ⊥
+  pub held : Held (length starts) pairs
+  pub free : (p : ℕ) → p < length pairs / 2 → Looping pairs p → ⊥
+
+module _ (starts deadlines pairs : List ℕ) (s : Sound starts deadlines pairs) where
+  pub formed : Formed (list-of starts deadlines pairs)
+  formed = record { even = sym (s .even); held = pairs-held (length starts) pairs (s .held) (length pairs / 2) (omega arith) }
+
+  pub loopless : Looped (list-of starts deadlines pairs) → ⊥
+  loopless x = pairs-loopless pairs (length pairs / 2) (s .free) (x .0) (x .1)
+
+module _ (starts deadlines pairs before : List ℕ) (s : Sound starts deadlines pairs) (spells : Spells pairs (length pairs / 2) before) where
+  abbrev L : Listed
+  L = list-of starts deadlines pairs
+
+  abbrev J : Jobs
+  J = jobs-in (length starts) starts before
+
+  free : Looped L → ⊥
+  free = loopless starts deadlines pairs s
+
+  reads : Reads L J
+  reads = record { size = refl; start = λ i l. refl; before = λ a b la lb. spells .chains a b }
+
+  pub sound-settleable : (row : List ℕ) → length starts ≤ length row → Settleable starts deadlines before row
+  sound-settleable row l = record {
+    even = s .even;
+    room = l;
+    few = s .few;
+    early = λ i h. le-by _ 4095 (λ g. s .jobs i h (inl (inl g)));
+    late = λ i h. le-by _ 4096 (λ g. s .jobs i h (inl (inr g)));
+    closed = reads-closed L J reads;
+    loopless = reads-loopless L J reads free;
+    held = λ a b t. chain-held (L .orders) (length starts) (formed starts deadlines pairs s .held) (spells .chains a b .0 t);
+  }
+
+  holds-row : (times row : ℕ → ℕ) → ((i : ℕ) → i < length starts → row i ≡ times i) → ((early : ℕ → ℕ) → Earliest J early → Latest 2 J early (row-in deadlines) times) → Holds 2 L J row
+  unfolding written
+  holds-row times row same x =
+      let e = exists-earliest J (reads-closed L J reads) (reads-loopless L J reads free) in
+      record {
+        formed = formed starts deadlines pairs s;
+        loopless = free;
+        reads = reads;
+        early = e .0;
+        earliest = e .1;
+        latest = latest-along 2 J J (λ i. i) (λ i. i) (reads-one L J J reads reads) (e .0) (e .0) (row-in deadlines) (row-in deadlines) times row
+            (λ i l. refl) (λ i l. refl) same (x (e .0) (e .1));
+      }
+
+  -- the last check
+  pub settles-judged : (row after : List ℕ) (r : Answer) → Settles starts deadlines before row after r →
+      Unless (Planned L → ⊥) (turned-down row 4 0) (Fitted L row) (record { answer = r; row = after })
+  unfolding written
+  settles-judged row after r (none x e w) = refused (λ p. x (plan-one 2 L (p .0) J (written L) (p .1) reads (p .2))) (λ i. record { answer = e i; row = w i })
+  settles-judged row after r (fits times x e h) =
+      let holds = holds-row (row-in times) (row-in after) (h .front) x in
+      passed (λ no. no (holds-planned L J (row-in after) holds)) (record { answer = e; same-length = h .same-length; jobs = J; holds = holds; rest = h .rest })
+
+-- jobs held are jobs below 64
+pub held-few : (size : ℕ) (pairs : List ℕ) → size ≤ 64 → Held size pairs → Held 64 pairs
+held-few size pairs l h = record { below = λ p k u. h .below p k (⊎-elim (λ x. inl (omega arith)) (λ x. inr (omega arith)) u) }

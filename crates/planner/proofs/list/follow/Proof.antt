@@ -1,0 +1,31 @@
+-- `planner::list::follow` meets its contract.
+-- Assumes nothing.
+use mathlib.Core.Logic.{inl, inr}
+use mathlib.Core.Path.{refl, sym, _∙_}
+use borrow.Author.Tests.{not-false}
+use Rattle.planner.proofs.Step.{true-T}
+use borrow.Author.Needs.{needs}
+use Rattle.planner.proofs.list.follow.Statement.{statement}
+use Rattle.planner.proofs.list.follow.Tie as tie
+
+mul-has : tie.Need-mul-has
+mul-has c = search needs
+
+element-copy-out-has : tie.Need-element-copy-out-has
+element-copy-out-has c = search needs
+
+has-requires : tie.Need-has-requires
+has-requires c κs = search needs
+
+link-requires : tie.Need-link-requires
+link-requires c κs = search needs
+
+returns : tie.Need-returns
+returns c = inr (c .link .ensures)
+
+returns-2 : tie.Need-returns-2
+returns-2 c = inl (true-T _ (sym (c .before .has .ensures) ∙ not-false _ (c .if1 .left)), refl)
+
+pub follow-spec : {M : Type 1} → statement M
+follow-spec =
+    tie.close (tie.spec mul-has element-copy-out-has has-requires link-requires returns returns-2)

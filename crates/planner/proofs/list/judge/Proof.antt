@@ -1,0 +1,131 @@
+-- `planner::list::judge` meets its contract: each return by the checks that led there.
+-- Assumes nothing.
+use mathlib.Core.Logic.{inl, inr, ⊎-elim}
+use mathlib.Core.Path.{_≡_, refl, ap}
+use Prim.Native.Nat.{_/_}
+use native.Mathlib.Omega.{arith}
+use borrow.Author.Needs.{needs}
+use lib.ListN.{length}
+use Rattle.planner.specs.Unless.{refused, passed, first, clear}
+use Rattle.planner.specs.Judged.{Misshapen, turned-down}
+use Rattle.planner.specs.Inner.List.{Spells}
+use Rattle.planner.proofs.Pairs.{spells-none}
+use Rattle.planner.proofs.Whole.{none-at, number-is, Sound, sound-settleable, settles-judged, held-few}
+use Rattle.planner.proofs.list.judge.Statement.{statement}
+use Rattle.planner.proofs.list.judge.Tie as tie
+
+-- past the check of the form
+shape : (c : tie.Else3) → let a = c .before .before .before .before .before .before .before .args in Misshapen (a .starts .now) (a .deadlines .now) (a .pairs .now) (a .latest .now) → ⊥
+shape c m = ⊎-elim (λ n. n (c .before .before .if1 .left)) (λ n. ⊎-elim (c .before .if2 .left) (λ g. omega arith) n) m
+
+-- past all checks but the last
+sound : (c : tie.Else7) → let a = c .before .before .before .before .before .before .before .before .before .before .before .before .before .before .before .args in Sound (a .starts .now) (a .deadlines .now) (a .pairs .now)
+sound c = record {
+  even = c .before .before .before .before .before .before .before .before .before .before .if1 .left;
+  few = c .before .before .before .before .before .before .before .if4 .left;
+  jobs = none-at _ _ _ (c .before .before .before .before .before .before .unsound-job .ensures) (c .before .before .before .before .before .if5 .left);
+  held = record { below = none-at _ _ _ (c .before .before .before .before .unheld-pair .ensures) (c .before .before .before .if6 .left) };
+  free = none-at _ _ _ (c .before .looping-pair .ensures .first) (c .if7 .left);
+}
+
+spells : (c : tie.Else7) → let p = c .before .before .before .before .before .before .before .before .before .before .before .before .before .before .before .args .pairs .now in Spells p (length p / 2) (c .before .looping-pair .last .1 .0)
+spells c =
+    let e : c .before .looping-pair .result ≡ length (c .before .before .before .before .before .before .before .before .before .before .before .before .before .before .before .args .pairs .now) / 2 = omega (arith, c .before .looping-pair .ensures .first .within, c .if7 .left) in
+    rw e at (c .before .looping-pair .ensures .spells)
+
+returns : tie.Need-returns
+returns c = refused (inl (c .if1 .taken)) refl
+
+returns-2 : tie.Need-returns-2
+returns-2 c = refused (inr (inl (c .if2 .taken))) refl
+
+returns-3 : tie.Need-returns-3
+returns-3 c = refused (inr (inr (c .if3 .taken))) refl
+
+returns-4 : tie.Need-returns-4
+returns-4 c = passed (shape (c .before)) (refused (c .if4 .taken) refl)
+
+unsound-job-requires : tie.Need-unsound-job-requires
+unsound-job-requires c κs = search needs
+
+mul-fault : tie.Need-mul-fault
+mul-fault c = search needs
+
+shared-slice-read-fault : tie.Need-shared-slice-read-fault
+shared-slice-read-fault c = search needs
+
+mul-fault-2 : tie.Need-mul-fault-2
+mul-fault-2 c = search needs
+
+shared-slice-read-fault-2 : tie.Need-shared-slice-read-fault-2
+shared-slice-read-fault-2 c = search needs
+
+fault-requires : tie.Need-fault-requires
+fault-requires c κs = search needs
+
+returns-5 : tie.Need-returns-5
+returns-5 c =
+    let a = c .before .before .before .before .before .before .before .before .before .before .before .before .before .args in
+    let u = c .before .before .before .before .unsound-job in
+    let l = c .before .before .before .if5 .taken in
+    passed (shape (c .before .before .before .before .before .before)) (passed (λ g. omega arith) (first (u .result .0) l (u .ensures .clear) (u .ensures .at l)
+    (ap (λ n. turned-down (a .latest .now) n (u .result .0)) (number-is _ _ _ (c .fault .ensures) (u .ensures .at l)))))
+
+unheld-pair-requires : tie.Need-unheld-pair-requires
+unheld-pair-requires c κs = search needs
+
+returns-6 : tie.Need-returns-6
+returns-6 c =
+    let u = c .before .unheld-pair in
+    let l = c .if6 .taken in
+    passed (shape (c .before .before .before .before .before)) (passed (λ g. omega arith)
+    (clear (none-at _ _ _ (c .before .before .before .unsound-job .ensures) (c .before .before .if5 .left))
+    (first (u .result) l (u .ensures .clear) (u .ensures .at l) refl)))
+
+looping-pair-requires : tie.Need-looping-pair-requires
+looping-pair-requires c κs =
+    (held-few _ _ (c .before .before .before .before .before .if4 .left) (record { below = none-at _ _ _ (c .before .before .unheld-pair .ensures) (c .before .if6 .left) }), spells-none _)
+
+returns-7 : tie.Need-returns-7
+returns-7 c =
+    let u = c .before .looping-pair in
+    let l = c .if7 .taken in
+    passed (shape (c .before .before .before .before .before .before .before .before)) (passed (λ g. omega arith)
+    (clear (none-at _ _ _ (c .before .before .before .before .before .before .unsound-job .ensures) (c .before .before .before .before .before .if5 .left))
+    (clear (none-at _ _ _ (c .before .before .before .before .unheld-pair .ensures) (c .before .before .before .if6 .left))
+    (first (u .result) l (u .ensures .first .clear) (u .ensures .first .at l) refl))))
+
+settle-requires : tie.Need-settle-requires
+settle-requires c κs = sound-settleable _ _ _ _ (sound (c .before .before)) (spells (c .before .before)) _ (search needs)
+
+same-length : tie.Need-same-length
+same-length c = search needs
+
+returns-8 : tie.Need-returns-8
+returns-8 c =
+    let s = sound (c .before .before .before .before .before) in
+    passed (shape (c .before .before .before .before .before .before .before .before .before .before .before .before .before)) (passed (λ g. omega arith)
+    (clear (s .jobs) (clear (s .held .below) (clear (s .free) (settles-judged _ _ _ _ s (spells (c .before .before .before .before .before)) _ _ _ (c .before .before .settle .ensures))))))
+
+pub judge-spec : {M : Type 1} → statement M
+judge-spec =
+    tie.close
+    (tie.spec
+    returns
+    returns-2
+    returns-3
+    returns-4
+    unsound-job-requires
+    mul-fault
+    shared-slice-read-fault
+    mul-fault-2
+    shared-slice-read-fault-2
+    fault-requires
+    returns-5
+    unheld-pair-requires
+    returns-6
+    looping-pair-requires
+    returns-7
+    settle-requires
+    same-length
+    returns-8)

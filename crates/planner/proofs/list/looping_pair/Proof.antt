@@ -1,0 +1,101 @@
+-- `planner::list::looping_pair` meets its contract. The invariant: no pair passed closes a loop, and the rows spell the chains of those passed.
+-- Assumes nothing.
+use Prim.Native.Nat.{ℕ, _-_, _/_, _≤_, _<_}
+use mathlib.Core.Path.{sym, _∙_}
+use native.Mathlib.Omega.{arith}
+use borrow.Author.Count.{below-none, below-more}
+use borrow.Author.Needs.{needs}
+use lib.ListN.{length}
+use Rattle.planner.specs.Judged.{Looping}
+use Rattle.planner.specs.Inner.List.{Spells}
+use Rattle.planner.proofs.Step.{true-T, false-T}
+use Rattle.planner.proofs.Pairs.{held-both, looping-is, spells-more}
+use Rattle.planner.proofs.list.looping_pair.Statement.{statement}
+use Rattle.planner.proofs.list.looping_pair.Tie as tie
+
+abbrev Inv-loop : tie.InvT-loop
+Inv-loop pairs rows₀ count p₀ rows p = (p ≤ length pairs / 2) × ((j : ℕ) → j < p → Looping pairs j → ⊥) × Spells pairs p rows
+
+abbrev μ-loop : tie.MeasureT-loop
+μ-loop pairs rows₀ count p₀ rows p = length pairs / 2 - p
+
+loop-holds : tie.Need-loop-holds Inv-loop μ-loop
+loop-holds c = (search needs, below-none _, c .before .pre .1)
+
+mul-named : tie.Need-mul-named Inv-loop μ-loop
+mul-named c = search needs
+
+named-requires : tie.Need-named-requires Inv-loop μ-loop
+named-requires c κs = search needs
+
+mul-named-2 : tie.Need-mul-named-2 Inv-loop μ-loop
+mul-named-2 c = search needs
+
+add-named : tie.Need-add-named Inv-loop μ-loop
+add-named c = search needs
+
+named-requires-2 : tie.Need-named-requires-2 Inv-loop μ-loop
+named-requires-2 c κs = search needs
+
+closes-requires : tie.Need-closes-requires Inv-loop μ-loop
+closes-requires c κs =
+    let p = c .before .before .before .before in
+    held-both 64 _ (p .before .before .pre .0) (p .loop .p) _ _ (search needs) (c .before .before .named .ensures) (c .before .named2 .ensures)
+
+returns : tie.Need-returns Inv-loop μ-loop
+returns c =
+    let p = c .before .before .before .before .before .before in
+    record {
+      first = record {
+        within = search needs;
+        clear = p .loop .inv .1;
+        at = λ l. looping-is _ _ _ _ _ (p .loop .inv .2) (c .before .before .before .before .named .ensures) (c .before .before .before .named2 .ensures) .0
+            (true-T _ (sym (c .before .closes .ensures) ∙ c .if1 .taken));
+      };
+      spells = p .loop .inv .2;
+    }
+
+follow-requires : tie.Need-follow-requires Inv-loop μ-loop
+follow-requires c κs =
+    let p = c .before .before .before .before .before .before .before in
+    let h = held-both 64 _ (p .before .before .pre .0) (p .loop .p) _ _ (search needs) (c .before .before .before .before .before .named .ensures) (c .before .before .before .before .named2 .ensures) in
+    (p .loop .inv .2 .long, h .0, h .1)
+
+add-p : tie.Need-add-p Inv-loop μ-loop
+add-p c = search needs
+
+loop-less : tie.Need-loop-less Inv-loop μ-loop
+loop-less c = search needs
+
+loop-again : tie.Need-loop-again Inv-loop μ-loop
+loop-again c =
+    let p = c .before .before .before .before .before .before .before .before in
+    let a = c .before .before .before .before .before .before .named .ensures in
+    let b = c .before .before .before .before .before .named2 .ensures in (
+      search needs,
+      below-more _ _ (p .loop .inv .1) (λ u. false-T _ (sym (c .before .before .before .closes .ensures) ∙ c .before .before .if1 .left) (looping-is _ _ _ _ _ (p .loop .inv .2) a b .1 u)),
+      spells-more _ _ _ _ (p .loop .inv .2) (rw (a, b) at (c .follow .ensures)),
+    )
+
+returns-2 : tie.Need-returns-2 Inv-loop μ-loop
+returns-2 c = record { first = record { within = search needs; clear = c .before .loop .inv .1; at = λ l. absurd (omega arith) }; spells = c .before .loop .inv .2 }
+
+pub looping-pair-spec : {M : Type 1} → statement M
+looping-pair-spec =
+    tie.close
+    (tie.spec
+    Inv-loop
+    μ-loop
+    loop-holds
+    mul-named
+    named-requires
+    mul-named-2
+    add-named
+    named-requires-2
+    closes-requires
+    returns
+    follow-requires
+    add-p
+    loop-less
+    loop-again
+    returns-2)

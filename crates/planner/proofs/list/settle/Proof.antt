@@ -1,0 +1,54 @@
+-- `planner::list::settle` meets its contract.
+-- Assumes nothing.
+use Rattle.planner.proofs.Hands.{hands-tightenable, settles-fits, settles-none}
+use borrow.Author.Needs.{needs}
+use Rattle.planner.proofs.list.settle.Statement.{statement}
+use Rattle.planner.proofs.list.settle.Tie as tie
+
+slice-aggregate-hand-over : tie.Need-slice-aggregate-hand-over
+slice-aggregate-hand-over c = search needs
+
+hand-over-requires : tie.Need-hand-over-requires
+hand-over-requires c κs = search needs
+
+slice-aggregate-hand-over-2 : tie.Need-slice-aggregate-hand-over-2
+slice-aggregate-hand-over-2 c = search needs
+
+hand-over-requires-2 : tie.Need-hand-over-requires-2
+hand-over-requires-2 c κs = search needs
+
+tighten-requires : tie.Need-tighten-requires
+tighten-requires c κs = hands-tightenable _ _ _ _ _ _ (c .before .before .before .before .before .before .before .before .before .before .before .pre) (c .before .before .before .before .before .before .hand-over .ensures) (c .before .before .before .hand-over2 .ensures)
+
+slice-aggregate-hand-over-3 : tie.Need-slice-aggregate-hand-over-3
+slice-aggregate-hand-over-3 c = search needs
+
+hand-over-requires-3 : tie.Need-hand-over-requires-3
+hand-over-requires-3 c κs = search needs
+
+same-length : tie.Need-same-length
+same-length c = search needs
+
+returns : tie.Need-returns
+returns c =
+    settles-fits _ _ _ _ _ _ (c .before .before .before .before .before .before .before .before .before .before .before .before .before .before .before .before .before .before .pre) (c .before .before .before .before .before .before .before .before .before .before .before .before .before .hand-over .ensures) (c .before .before .before .before .before .before .before .before .before .before .hand-over2 .ensures) _ _
+    (c .before .before .before .before .before .before .tighten .ensures) _ (c .before .before .before .before .before .if1 .taken) (c .before .before .hand-over3 .ensures)
+
+returns-2 : tie.Need-returns-2
+returns-2 c =
+    settles-none _ _ _ _ _ _ (c .before .before .before .before .before .before .before .before .before .before .before .before .before .pre) (c .before .before .before .before .before .before .before .before .hand-over .ensures) (c .before .before .before .before .before .hand-over2 .ensures) _ _ (c .before .tighten .ensures) (c .if1 .left)
+
+pub settle-spec : {M : Type 1} → statement M
+settle-spec =
+    tie.close
+    (tie.spec
+    slice-aggregate-hand-over
+    hand-over-requires
+    slice-aggregate-hand-over-2
+    hand-over-requires-2
+    tighten-requires
+    slice-aggregate-hand-over-3
+    hand-over-requires-3
+    same-length
+    returns
+    returns-2)

@@ -1,0 +1,70 @@
+-- A whole list, check by check, in lent rows.
+-- Assumes nothing.
+use mathlib.Core.List.{List}
+use mathlib.Core.Logic.{_↔_, _⊎_}
+use mathlib.Core.Path.{_≡_}
+use Prim.Native.Nat.{ℕ, _/_, _≤_, _<_}
+use lib.Dec.{T}
+use lib.ListN.{length, getD}
+use Rattle.schedule.specs.Jobs.{Closed, Loopless}
+use Rattle.schedule.specs.Plan.{HasPlan}
+use Rattle.schedule.specs.Times.{Earliest, Latest}
+use Rattle.schedule.specs.Listed.{Chain}
+use Rattle.planner.specs.declared.refusal.Answer.{Answer}
+use Rattle.planner.specs.declared.refusal.Answer.the-variants.{Accepted, Refused}
+use Rattle.planner.specs.Sets.{has}
+use Rattle.planner.specs.Told.{jobs-in, row-in}
+use Rattle.planner.specs.Judged.{pairs-of, Unsound, number-for, Unheld, Looping}
+use Rattle.planner.specs.Inner.Chains.{Links}
+
+-- the first place below n that has a fault, or n where none has
+pub record First (n : ℕ) (fault : ℕ → Type 0) (r : ℕ) : Type 0 where
+  pub within : r ≤ n
+  pub clear : (j : ℕ) → j < r → fault j → ⊥
+  pub at : r < n → fault r
+
+-- the number of a job's fault, and 0 for none
+pub record Numbers (start deadline r : ℕ) : Type 0 where
+  pub none : r ≡ 0 → Unsound start deadline → ⊥
+  pub some : (r ≡ 0 → ⊥) → Unsound start deadline × (r ≡ number-for start deadline)
+
+-- every pair is of jobs below size
+pub record Held (size : ℕ) (pairs : List ℕ) : Type 0 where
+  pub below : (p : ℕ) → p < length pairs / 2 → Unheld size pairs p → ⊥
+
+-- 64 rows spell the chains of the first n pairs
+pub record Spells (pairs : List ℕ) (n : ℕ) (rows : List ℕ) : Type 0 where
+  pub long : length rows ≡ 64
+  pub chains : (a b : ℕ) → T (has (getD rows b 0) a) ↔ Chain (pairs-of pairs n) a b
+
+-- the first pair that closes a loop, and the rows of those before it
+pub record Loops (pairs rows : List ℕ) (r : ℕ) : Type 0 where
+  pub first : First (length pairs / 2) (Looping pairs) r
+  pub spells : Spells pairs r rows
+
+-- a before b already follows, or is taken in
+abbrev pub Follows : ℕ → ℕ → List ℕ → List ℕ → Type 0
+Follows a b old new = (T (has (getD old b 0) a) × (new ≡ old)) ⊎ ((length new ≡ 64) × Links a b old new)
+
+-- the first entries of a row, and the rest as it was
+pub record Hands (size : ℕ) (times row after : List ℕ) : Type 0 where
+  pub same-length : length after ≡ length row
+  pub front : (i : ℕ) → i < size → getD after i 0 ≡ getD times i 0
+  pub rest : (i : ℕ) → size ≤ i → getD after i 0 ≡ getD row i 0
+
+-- rows to settle: what tightening asks of them, and the receiving row has room
+pub record Settleable (starts deadlines before row : List ℕ) : Type 0 where
+  pub even : length starts ≡ length deadlines
+  pub room : length starts ≤ length row
+  pub few : length starts ≤ 64
+  pub early : (i : ℕ) → i < length starts → getD starts i 0 ≤ 4095
+  pub late : (i : ℕ) → i < length starts → getD deadlines i 0 ≤ 4096
+  pub closed : Closed (jobs-in (length starts) starts before)
+  pub loopless : Loopless (jobs-in (length starts) starts before)
+  pub held : (a b : ℕ) → T (has (getD before b 0) a) → (a < length starts) × (b < length starts)
+
+-- the latest times handed out, or refusal 4 and the row as it was
+pub data Settles (starts deadlines before row after : List ℕ) (r : Answer) : Type 0 where
+  none : (HasPlan 2 (jobs-in (length starts) starts before) (row-in deadlines) → ⊥) → r ≡ Refused 4 0 → after ≡ row → Settles starts deadlines before row after r
+  fits : (times : List ℕ) → ((early : ℕ → ℕ) → Earliest (jobs-in (length starts) starts before) early → Latest 2 (jobs-in (length starts) starts before) early (row-in deadlines) (row-in times)) →
+      r ≡ Accepted 0 → Hands (length starts) times row after → Settles starts deadlines before row after r

@@ -1,0 +1,175 @@
+// The whole list at once.
+use crate::chains;
+use crate::refusal::Answer;
+use crate::sets;
+use crate::tighten;
+use schedule::JobIndex;
+ghost use mathlib.Core.Bool.{_||_};
+ghost use mathlib.Core.Path.{_≡_};
+ghost use Prim.Native.Nat.{ℕ, _/_, _≤_, _<_};
+ghost use lib.Dec.{eqb};
+ghost use lib.ListN.{length, getD};
+ghost use Rattle.planner.specs.Sets.{has};
+ghost use Rattle.planner.specs.Judged.{Judges, Unsound, Unheld};
+ghost use Rattle.planner.specs.Inner.List.{First, Numbers, Held, Spells, Loops, Follows, Hands, Settleable, Settles};
+
+// The list judged, and its latest times in the receiving row; a refusal leaves the row as it was.
+pub fn judge(starts: &[u16], deadlines: &[u16], pairs: &[u16], latest: &mut [u16]) -> Answer
+    ensures { λ r. ⌜ Judges (now (starts .entry)) (now (deadlines .entry)) (now (pairs .entry)) (now (latest .entry)) (now (latest .exit)) r ⌝ }
+{
+    let size = starts.len();
+    if size != deadlines.len() {
+        return Answer::Refused(7, 0);
+    }
+    if pairs.len() % 2 == 1 {
+        return Answer::Refused(7, 0);
+    }
+    if latest.len() < size {
+        return Answer::Refused(7, 0);
+    }
+    if size > 64 {
+        return Answer::Refused(1, 0);
+    }
+    let job = unsound_job(starts, deadlines).0;
+    if job < size {
+        return Answer::Refused(fault(starts[job], deadlines[job]), job);
+    }
+    let stray = unheld_pair(pairs, size);
+    if stray < pairs.len() / 2 {
+        return Answer::Refused(5, stray);
+    }
+    let mut rows = [0u64; 64];
+    let closing = looping_pair(pairs, &mut rows);
+    if closing < pairs.len() / 2 {
+        return Answer::Refused(6, closing);
+    }
+    settle(starts, deadlines, &rows, latest)
+}
+
+// The first job with a fault of its own, or the number of jobs.
+fn unsound_job(starts: &[u16], deadlines: &[u16]) -> JobIndex
+    requires { ⌜ length (now starts) ≡ length (now deadlines) ⌝ }
+    ensures { λ r. ⌜ First (length (now (starts .entry))) (λ i. Unsound (getD (now (starts .entry)) i 0) (getD (now (deadlines .entry)) i 0)) (r .0) ⌝ }
+{
+    let mut i: usize = 0;
+    while i < starts.len() {
+        if fault(starts[i], deadlines[i]) != 0 {
+            return JobIndex(i);
+        }
+        i += 1;
+    }
+    JobIndex(i)
+}
+
+// The number of a job's fault, and 0 for none.
+fn fault(start: u16, deadline: u16) -> u8
+    ensures { λ r. ⌜ Numbers start deadline r ⌝ }
+{
+    if start > 4095 {
+        return 2;
+    }
+    if deadline > 4096 {
+        return 2;
+    }
+    if deadline <= start {
+        return 3;
+    }
+    0
+}
+
+// The first pair that names a job not held, or the number of pairs.
+fn unheld_pair(pairs: &[u16], size: usize) -> usize
+    ensures { λ r. ⌜ First (length (now (pairs .entry)) / 2) (Unheld size (now (pairs .entry))) r ⌝ }
+{
+    let count = pairs.len() / 2;
+    let mut p: usize = 0;
+    while p < count {
+        if named(pairs, 2 * p).0 >= size {
+            return p;
+        }
+        if named(pairs, 2 * p + 1).0 >= size {
+            return p;
+        }
+        p += 1;
+    }
+    p
+}
+
+// The job that a pair names.
+fn named(pairs: &[u16], at: usize) -> JobIndex
+    requires { ⌜ at < length (now pairs) ⌝ }
+    ensures { λ r. ⌜ r .0 ≡ getD (now (pairs .entry)) at 0 ⌝ }
+{
+    JobIndex(pairs[at] as usize)
+}
+
+// The first pair that closes a loop with those before it, or the number of pairs; the rows take in those before it.
+fn looping_pair(pairs: &[u16], rows: &mut [u64; 64]) -> usize
+    requires { ⌜ Held 64 (now pairs) × Spells (now pairs) 0 (now rows) ⌝ }
+    ensures { λ r. ⌜ Loops (now (pairs .entry)) (now (rows .exit)) r ⌝ }
+{
+    let count = pairs.len() / 2;
+    let mut p: usize = 0;
+    while p < count {
+        let first = named(pairs, 2 * p);
+        let second = named(pairs, 2 * p + 1);
+        if closes(rows, first, second) {
+            return p;
+        }
+        follow(rows, first, second);
+        p += 1;
+    }
+    p
+}
+
+// Whether a before b would close a loop.
+fn closes(rows: &[u64; 64], a: JobIndex, b: JobIndex) -> bool
+    requires { ⌜ (a .0 < 64) × (b .0 < 64) ⌝ }
+    ensures { λ r. ⌜ r ≡ (eqb (a .0) (b .0) || has (getD (now (rows .entry)) (a .0) 0) (b .0)) ⌝ }
+{
+    let first = a.0;
+    if first == b.0 {
+        return true;
+    }
+    sets::has(rows[first], b)
+}
+
+// Job a before job b, unless that already follows.
+fn follow(rows: &mut [u64; 64], a: JobIndex, b: JobIndex)
+    requires { ⌜ (length (now rows) ≡ 64) × (a .0 < 64) × (b .0 < 64) ⌝ }
+    ensures { λ _. ⌜ Follows (a .0) (b .0) (now (rows .entry)) (now (rows .exit)) ⌝ }
+{
+    let second = b.0;
+    if !sets::has(rows[second], a) {
+        chains::link(rows, a, b);
+    }
+}
+
+// The last check: the latest times handed over, or refusal 4.
+fn settle(starts: &[u16], deadlines: &[u16], before: &[u64; 64], latest: &mut [u16]) -> Answer
+    requires { ⌜ Settleable (now starts) (now deadlines) (now before) (now latest) ⌝ }
+    ensures { λ r. ⌜ Settles (now (starts .entry)) (now (deadlines .entry)) (now (before .entry)) (now (latest .entry)) (now (latest .exit)) r ⌝ }
+{
+    let size = starts.len();
+    let mut start = [0u16; 64];
+    hand_over(starts, size, &mut start);
+    let mut row = [0u16; 64];
+    hand_over(deadlines, size, &mut row);
+    if tighten::tighten(size, &start, before, &mut row) {
+        hand_over(&row, size, latest);
+        return Answer::Accepted(0);
+    }
+    Answer::Refused(4, 0)
+}
+
+// The first times of one row, written to another.
+fn hand_over(times: &[u16], size: usize, row: &mut [u16])
+    requires { ⌜ (size ≤ length (now times)) × (size ≤ length (now row)) ⌝ }
+    ensures { λ _. ⌜ Hands size (now (times .entry)) (now (row .entry)) (now (row .exit)) ⌝ }
+{
+    let mut i: usize = 0;
+    while i < size {
+        row[i] = times[i];
+        i += 1;
+    }
+}
