@@ -20,7 +20,13 @@ pub extern "C" fn firmware_judge(starts: &[u16], deadlines: &[u16], pairs: &[u16
 pub extern "C" fn firmware_class(refusal: u8) -> u8
     ensures { λ r. ⌜ r ≡ class-number (class-of refusal) ⌝ }
 {
-    let class = planner::class_of(refusal);
+    told(planner::class_of(refusal))
+}
+
+// A class as a number.
+fn told(class: Class) -> u8
+    ensures { λ r. ⌜ r ≡ class-number class ⌝ }
+{
     match class {
         Class::None => 0,
         Class::Room => 1,

@@ -1,3 +1,5 @@
+-- `firmware::plan::firmware_place` meets its contract.
+-- Assumes nothing.
 use mathlib.Core.Path.{refl}
 use borrow.Author.Needs.{needs}
 use Rattle.firmware.proofs.plan.firmware_place.Statement.{statement}

@@ -1,3 +1,5 @@
+-- `firmware::requests::ask` meets its contract.
+-- Assumes nothing.
 use borrow.Author.Needs.{needs}
 use Rattle.firmware.proofs.requests.ask.Statement.{statement}
 use Rattle.firmware.proofs.requests.ask.Tie as tie
