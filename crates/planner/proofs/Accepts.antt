@@ -29,7 +29,7 @@ use Rattle.planner.specs.Outcome.{Planned, acceptance, Judged, Applies}
 use Rattle.planner.specs.Inner.Book.{Tight, fits, with-latest}
 use Rattle.planner.specs.Inner.Chains.{Links, Joins}
 use Rattle.planner.proofs.Bits.{only, with-has}
-use Rattle.planner.proofs.Same.{reads-one, plan-one}
+use Rattle.schedule.proofs.Same.{reads-one, plan-one}
 use Rattle.planner.proofs.Once.{applies-by}
 use Rattle.planner.proofs.Step.{Grows, size-is, job-grows, order-grows, followed-told, told-judged, settled-judged}
 use Rattle.planner.proofs.Join.{or-joins, none-joins, links-by}
@@ -57,8 +57,8 @@ tight-exists L grown g p = (
   record {
     size = from-length 64 entry;
     rest = λ i l. ⊎-elim (λ le. List·getD-eq-default (from 64 entry) 0 (omega (arith, from-length 64 entry))) (λ lt. from-at 64 entry i lt ∙ simp (le-ltb i (grown .size) l)) (le-or-lt 64 i);
-    latest = λ early e. latest-along 2 J J (λ i. i) (λ i. i) (reads-one L J J (g .reads) (g .reads)) (g .early) early (latest-of grown) (latest-of grown) (x .0) (row-in (from 64 entry))
-        (λ i l. earliest-one J early (g .early) e (g .earliest) i l) (λ i l. refl)
+    latest = λ early e. latest-along 2 J J (λ i. i) (λ i. i) (reads-one L J J (g .onward .reads) (g .onward .reads)) (g .onward .early) early (latest-of grown) (latest-of grown) (x .0) (row-in (from 64 entry))
+        (λ i l. earliest-one J early (g .onward .early) e (g .onward .earliest) i l) (λ i l. refl)
         (λ i l. from-at 64 entry i (omega (arith, g .shaped .few)) ∙ simp (lt-ltb i (grown .size) l)) (x .1);
   },
 )
@@ -66,10 +66,10 @@ tight-exists L grown g p = (
     J : Jobs
     J = jobs-of grown
 
-    x : (row : ℕ → ℕ) × Latest 2 (jobs-of grown) (g .early) (latest-of grown) row
+    x : (row : ℕ → ℕ) × Latest 2 (jobs-of grown) (g .onward .early) (latest-of grown) row
     x =
-        let plan = g .plans (plan-one 2 L (p .0) (jobs-of grown) (written L) (p .1) (g .reads) (p .2)) in
-        let y = plan-has-latest 2 (jobs-of grown) (g .early) (latest-of grown) (g .earliest) (omega arith) (plan .0) (plan .1) (plan .2) in
+        let plan = g .onward .plans (plan-one 2 L (p .0) (jobs-of grown) (written L) (p .1) (g .onward .reads) (p .2)) in
+        let y = plan-has-latest 2 (jobs-of grown) (g .onward .early) (latest-of grown) (g .onward .earliest) (omega arith) (plan .0) (plan .1) (plan .2) in
         (y .0, y .1)
 
     entry : ℕ → ℕ

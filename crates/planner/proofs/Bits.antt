@@ -1,18 +1,21 @@
 -- The laws of sets that are numbers: what digit each operation gives, the count of ones, and that digits settle the number.
 -- Assumes nothing.
 use Prim.Native.Nat.{ℕ, zero, suc, _+_, _-_, _*_, _/_, _%_, _^_, _≤_, _<_}
-use native.Mathlib.Nat.{mod-lt, mod-eq-of-lt, div-eq-of-lt, div-one, zero-div, one-mul, mul-mod-left, pow-suc, lt-of-lt-of-le, mod-one}
+use native.Mathlib.Nat.{sub-zero, mod-lt, mod-eq-of-lt, div-eq-of-lt, div-one, zero-div, one-mul, mul-mod-left, pow-suc, lt-of-lt-of-le, mod-one}
 use native.Mathlib.Decide.{decLt}
 use native.Mathlib.Numerals.{one-add}
 use native.Mathlib.Omega.{arith}
 use mathlib.Core.Bool.{Bool, true, false, not, _&&_, _||_}
+use mathlib.Core.Logic.{_⊎_, inl, inr, ⊎-elim}
 use mathlib.Core.Path.{_≡_, refl, sym, ap, ap₂, _∙_, subst}
 use borrow.Author.Tests.{lt-ltb, le-ltb, eq-eqb, ne-eqb, eqb-true}
-use lib.Dec.{eqb, ltb, lit<, eqb·suc-zero, eqb·zero-suc, eqb·suc-suc}
-use lib.Bits.{bitAnd, bitOr, bitXor, and-shr, or-shr, xor-shr, and-mod, or-mod, xor-mod}
-use lib.Count.{ones, ones-cat}
+use lib.Dec.{T, T-not, not-T, eqb→eq, eqb-refl, eqb, ltb, lit<, eqb·suc-zero, eqb·zero-suc, eqb·suc-suc}
+use lib.Bits.{bitAnd, bitOr, bitXor, and-lt, and-shr, or-shr, xor-shr, and-mod, or-mod, xor-mod}
+use lib.Count.{ones, ones-cat, trailingZeros, under}
 use lib.Pow.{pow-pos, pow-lt, pow-mono, mod-pow-add, shr-shr, shl-exact}
 use Rattle.schedule.specs.Count.{one, count}
+use Rattle.schedule.proofs.Tests.{test, and-pair, and-fst, and-snd, lt-by}
+use Rattle.schedule.proofs.Counting.{count-lt, count-but, count-mono}
 use Rattle.planner.specs.Sets.{has}
 
 -- what holds at 0 and at 1 holds of a digit
@@ -187,9 +190,9 @@ both true false false h = refl
 both false b true h = sym (h refl)
 both false b false h = refl
 
-pub built-more : (p : ℕ → Bool) (i s : ℕ) → i < 64 → p i ≡ true → Built p i s → Built p (i + 1) (bitOr s (only i))
-built-more p i s hi pi h j =
-    with-has s i j hi ∙ ap (λ (b : Bool). b || eqb j i) (h j)
+pub built-more : (p : ℕ → Bool) (i s r : ℕ) → p i ≡ true → Built p i s → ((j : ℕ) → has r j ≡ (has s j || eqb j i)) → Built p (i + 1) r
+built-more p i s r pi h w j =
+    w j ∙ ap (λ (b : Bool). b || eqb j i) (h j)
     ∙ both (ltb j i) (p j) (eqb j i) (λ e. ap p (eqb-true j i e) ∙ pi)
     ∙ sym (ap (λ (b : Bool). b && p j) (ltb-more j i))
 
@@ -202,3 +205,82 @@ pub built-same : (p : ℕ → Bool) (i s : ℕ) → p i ≡ false → Built p i 
 built-same p i s pi h j =
     h j ∙ skip (ltb j i) (p j) (eqb j i) (λ e. ap p (eqb-true j i e) ∙ pi)
     ∙ sym (ap (λ (b : Bool). b && p j) (ltb-more j i))
+
+-- no job is in the empty set, and a set without jobs is empty
+pub empty-has : (j : ℕ) → has 0 j ≡ false
+empty-has j = high-has 0 j (pow-pos j)
+
+pub empty-is : (x : ℕ) → x < 2 ^ 64 → ((j : ℕ) → has x j ≡ false) → x ≡ 0
+empty-is x h f = has-same 64 x 0 h (pow-pos 64) (λ j l. f j ∙ sym (empty-has j))
+
+-- a job in a set is below 64, and its set is not empty
+pub has-below : (x j : ℕ) → x < 2 ^ 64 → T (has x j) → j < 64
+has-below x j h t = lt-by j 64 (λ le. subst T (high-has x j (lt-of-lt-of-le h (pow-mono {i = 64} {j = j} le))) t)
+
+pub has-some : (x j : ℕ) → T (has x j) → x ≡ 0 → ⊥
+has-some x j t e = subst T (ap (λ (n : ℕ). has n j) e ∙ empty-has j) t
+
+-- the jobs below n
+pub low-has : (n j : ℕ) → has (2 ^ n - 1) j ≡ ltb j n
+low-has n j = go (decLt j n)
+  where
+    go : Dec (j < n) → has (2 ^ n - 1) j ≡ ltb j n
+    go (yes h) = ap (λ (x : ℕ). has x j) (sym (sub-zero (2 ^ n - 1))) ∙ not-has n 0 j (pow-pos n) h ∙ ap not (empty-has j) ∙ sym (lt-ltb j n h)
+    go (no h) =
+        high-has (2 ^ n - 1) j (omega (arith, pow-mono {i = n} {j = j} (omega arith), pow-pos n)) ∙ sym (le-ltb j n (omega arith))
+
+-- the lowest one of a number is one of its digits
+pub trailing-has : (k x : ℕ) → x < 2 ^ k → (x ≡ 0 → ⊥) → (trailingZeros k x < k) × T (has x (trailingZeros k x))
+unfolding trailingZeros
+trailing-has zero x h f = absurd (f (omega arith))
+trailing-has (suc k) x h f = go (x % 2) refl (λ g. trailing-has k (x / 2) (let e : x / 2 < 2 ^ k = omega (arith, rw pow-suc at h) in e) g)
+  where
+    lowest : x % 2 ≡ 1 → T (has x 0)
+    lowest e = unfold has in simp (div-one, e) tt
+
+    go : (r : ℕ) → x % 2 ≡ r → ((x / 2 ≡ 0 → ⊥) → (trailingZeros k (x / 2) < k) × T (has (x / 2) (trailingZeros k (x / 2)))) →
+        (under r (trailingZeros k (x / 2)) < suc k) × T (has x (under r (trailingZeros k (x / 2))))
+    go zero e ih = let y = ih (λ z. f (omega arith)) in (omega (arith, y .0), rw half-has (y .1))
+    go (suc r) e ih = (omega arith, lowest (omega arith))
+
+-- A walk over a set, job by job: x without k is y.
+module _ (x y k : ℕ) (w : (j : ℕ) → has y j ≡ (has x j && not (eqb j k))) where
+  pub walk-sub : (j : ℕ) → T (has y j) → T (has x j)
+  walk-sub j t = and-fst (has x j) (not (eqb j k)) (rw (w j) at t)
+
+  pub walk-split : (j : ℕ) → T (has x j) → (j ≡ k) ⊎ T (has y j)
+  walk-split j t = ⊎-elim (λ e. inl (eqb→eq j k e)) (λ f. inr (rw (w j) (and-pair (has x j) (not (eqb j k)) t (not-T (eqb j k) f)))) (test (eqb j k))
+
+  pub walk-out : T (has y k) → ⊥
+  walk-out t = T-not (eqb k k) (and-snd (has x k) (not (eqb k k)) (rw (w k) at t)) (eqb-refl k)
+
+  pub walk-less : k < 64 → T (has x k) → count 64 (has y) < count 64 (has x)
+  walk-less l t = count-lt 64 (has y) (has x) k l (λ j h. walk-sub j) t walk-out
+
+  pub walk-one : k < 64 → T (has x k) → count 64 (has x) ≡ count 64 (has y) + 1
+  walk-one l t =
+      let but : count 64 (λ j. not (eqb j k) && has x j) ≤ count 64 (has y) = count-mono 64 (λ j. not (eqb j k) && has x j) (has y)
+      (λ j h u. rw (w j) (and-pair (has x j) (not (eqb j k)) (and-snd (not (eqb j k)) (has x j) u) (and-fst (not (eqb j k)) (has x j) u))) in
+      omega (arith, walk-less l t, count-but 64 (has x) k)
+
+-- sets apart have an empty meet
+none-both : (a b : Bool) → (T a → T b → ⊥) → (a && b) ≡ false
+none-both true true f = absurd (f tt tt)
+none-both true false f = refl
+none-both false b f = refl
+
+pub apart-is : (x y : ℕ) → x < 2 ^ 64 → y < 2 ^ 64 → ((a : ℕ) → T (has x a) → T (has y a) → ⊥) → bitAnd x y ≡ 0
+apart-is x y hx hy f = empty-is (bitAnd x y) (and-lt 64 x y hx hy) (λ j. and-has x y j ∙ none-both (has x j) (has y j) (f j))
+
+pub apart-has : (x y : ℕ) → bitAnd x y ≡ 0 → (a : ℕ) → T (has x a) → T (has y a) → ⊥
+apart-has x y e a t u = has-some (bitAnd x y) a (rw (and-has x y a) (and-pair (has x a) (has y a) t u)) e
+
+-- a count of tests that fail from n on stops at n
+pub count-cut : (n k : ℕ) (p q : ℕ → Bool) → n ≤ k → ((j : ℕ) → j < n → p j ≡ q j) → ((j : ℕ) → n ≤ j → p j ≡ false) → count k p ≡ count n q
+unfolding count
+count-cut n zero p q h f g = let e : n ≡ 0 = omega arith in rw e refl
+count-cut n (suc k) p q h f g = go (decLt k n) (λ l. count-cut n k p q l f g)
+  where
+    go : Dec (k < n) → (n ≤ k → count k p ≡ count n q) → count (suc k) p ≡ count n q
+    go (yes l) ih = let e : n ≡ suc k = omega arith in rw e (count-same (suc k) p q (λ j i. f j (omega arith)))
+    go (no l) ih = unfold count in ap (λ (b : Bool). one b + count k p) (g k (omega arith)) ∙ (let e : 0 + count k p ≡ count n q = omega (arith, ih (omega arith)) in e)

@@ -16,9 +16,10 @@ use Rattle.planner.specs.Answer.{number-of}
 use Rattle.planner.specs.Told.{Told, jobs-of, latest-of, row-in}
 use Rattle.planner.specs.Unless.{Unless, refused, passed, UnlessAt, first, clear, One}
 use Rattle.planner.specs.Judged.{first-of, second-of, list-of, Misshapen, number-for, Judgement, turned-down, Fitted, Judged-as, AsRequests}
-use Rattle.planner.proofs.Same.{holds-one}
+use Rattle.schedule.proofs.Same.{holds-one}
+use Rattle.schedule.proofs.Onward.{holds-planned}
 use Rattle.planner.proofs.Once.{unless-one, unless-at-one}
-use Rattle.planner.proofs.Step.{size-is, holds-planned}
+use Rattle.planner.proofs.Step.{size-is}
 use Rattle.planner.proofs.Pairs.{pairs-more, pairs-in}
 use Rattle.planner.proofs.Whole.{Sound}
 use Rattle.planner.proofs.Requests.{run-exists}
@@ -39,11 +40,11 @@ judges-only starts deadlines pairs row =
     unless-one _ _ _ (unless-one _ _ _ (unless-at-one _ _ _ _ (unless-at-one _ _ _ _ (unless-at-one _ _ _ _ (unless-one _ _ _ (fitted-one _ _))))))
 
 -- ---- a list that is accepted has passed all checks
-unless-past : {A : Type 0} (fault : Type 0) (refusal : A) (next : A → Type 0) (r : A) → (r ≡ refusal → ⊥) → Unless fault refusal next r → (fault → ⊥) × next r
+pub unless-past : {A : Type 0} (fault : Type 0) (refusal : A) (next : A → Type 0) (r : A) → (r ≡ refusal → ⊥) → Unless fault refusal next r → (fault → ⊥) × next r
 unless-past fault refusal next r f (refused x e) = absurd (f e)
 unless-past fault refusal next r f (passed x y) = (x, y)
 
-unless-at-past : {A : Type 0} (n : ℕ) (fault : ℕ → Type 0) (refusal : ℕ → A) (next : A → Type 0) (r : A) → ((i : ℕ) → r ≡ refusal i → ⊥) → UnlessAt n fault refusal next r →
+pub unless-at-past : {A : Type 0} (n : ℕ) (fault : ℕ → Type 0) (refusal : ℕ → A) (next : A → Type 0) (r : A) → ((i : ℕ) → r ≡ refusal i → ⊥) → UnlessAt n fault refusal next r →
     ((i : ℕ) → i < n → fault i → ⊥) × next r
 unless-at-past n fault refusal next r f (first i l b x e) = absurd (f i e)
 unless-at-past n fault refusal next r f (clear x y) = (x, y)
@@ -69,7 +70,7 @@ accepted-sound starts deadlines pairs row r j a =
     even f = le-antisymm (le-by _ _ (λ l. f (λ e. omega arith))) (le-by _ _ (λ l. f (λ e. omega arith)))
 
 -- ---- and a list that a book holds passes them
-unless-free : {A : Type 0} (fault : Type 0) (refusal : A) (next : A → Type 0) (r : A) → (fault → ⊥) → Unless fault refusal next r → next r
+pub unless-free : {A : Type 0} (fault : Type 0) (refusal : A) (next : A → Type 0) (r : A) → (fault → ⊥) → Unless fault refusal next r → next r
 unless-free fault refusal next r f (refused x e) = absurd (f x)
 unless-free fault refusal next r f (passed x y) = y
 
@@ -108,7 +109,7 @@ module _ (starts deadlines pairs : List ℕ) (k : Book) (t : Told k (list-of sta
     told-fitted : (Misshapen starts deadlines pairs row → ⊥) → Fitted L row r
     told-fitted m =
         let s = told-sound in
-        unless-free _ _ _ r (λ no. no (holds-planned L (jobs-of k) (latest-of k) (t .holds)))
+        unless-free _ _ _ r (λ no. no (holds-planned 2 (omega arith) (omega arith) L (jobs-of k) (latest-of k) (t .holds)))
         (unless-at-free _ _ _ _ r (s .free) (unless-at-free _ _ _ _ r (s .held .below) (unless-at-free _ _ _ _ r (s .jobs)
         (unless-free _ _ _ r (λ l. omega (arith, s .few)) (unless-free _ _ _ r m j)))))
 
@@ -131,7 +132,7 @@ pub list-is-requests : (starts deadlines pairs row : List ℕ) (r : Judgement) �
 list-is-requests starts deadlines pairs row r j = record {
   run = λ a.
       let x = accepted-sound starts deadlines pairs row r j a in
-      run-exists starts deadlines pairs (x .0) (holds-planned (list-of starts deadlines pairs) (x .1 .jobs) (row-in (r .row)) (x .1 .holds));
+      run-exists starts deadlines pairs (x .0) (holds-planned 2 (omega arith) (omega arith) (list-of starts deadlines pairs) (x .1 .jobs) (row-in (r .row)) (x .1 .holds));
   accepted = λ m k t. told-fitted starts deadlines pairs k t row r j m .answer;
   refused = λ e k t. told-not-4 starts deadlines pairs k t row r j e;
   times = λ a k t. told-times starts deadlines pairs k t row r j (accepted-sound starts deadlines pairs row r j a .1);

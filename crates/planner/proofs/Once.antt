@@ -1,19 +1,17 @@
 -- A request has one outcome.
 -- Assumes nothing.
-use mathlib.Core.Path.{_≡_, refl, sym, ap, _∙_}
-use Prim.Native.Nat.{ℕ, _≤_, _<_}
+use mathlib.Core.Path.{_≡_, sym, ap, _∙_}
+use Prim.Native.Nat.{ℕ}
 use native.Mathlib.Nat.{le-antisymm}
-use native.Mathlib.Omega.{arith}
-use lib.ListN.{length}
 use Rattle.schedule.specs.Listed.{Listed}
 use Rattle.schedule.proofs.Tests.{le-by}
 use Rattle.planner.specs.declared.book.Book.{Book}
 use Rattle.planner.specs.declared.book.Request.{Request}
 use Rattle.planner.specs.declared.book.Request.the-variants.{Job, Before, Earlier}
 use Rattle.planner.specs.declared.book.Applied.{Applied}
-use Rattle.planner.specs.Told.{Told, Made, nothing-listed}
+use Rattle.planner.specs.Told.{Told, Made}
 use Rattle.planner.specs.Unless.{Unless, refused, passed, UnlessAt, first, clear, One}
-use Rattle.planner.specs.Outcome.{refusal, Grown, Outcome, Outcomes, Applies, grow, kept, Run, opened, asked}
+use Rattle.planner.specs.Outcome.{refusal, Grown, Outcome, Outcomes, Applies, kept, Run, opened, asked}
 use Rattle.planner.proofs.Same.{told-one}
 
 -- a check keeps one result one
@@ -48,7 +46,7 @@ applies-only k q m r s x y = outcome-one (m .0) k q r s (x .outcome (m .0) (m .1
 
 -- ---- runs
 -- what holds of the refusal, and of whatever follows, holds of the result
-unless-all : {A : Type 0} (P : A → Type 0) (r : A) (fault : Type 0) (refusal : A) (next : A → Type 0) → P refusal → (next r → P r) → Unless fault refusal next r → P r
+pub unless-all : {A : Type 0} (P : A → Type 0) (r : A) (fault : Type 0) (refusal : A) (next : A → Type 0) → P refusal → (next r → P r) → Unless fault refusal next r → P r
 unless-all P r fault refusal next a f (refused x e) = rw e a
 unless-all P r fault refusal next a f (passed x y) = f y
 

@@ -1,79 +1,21 @@
 -- Two readings of one list are alike, and a list has one book.
 -- Assumes nothing.
-use mathlib.Core.Bool.{Bool, true, false}
-use mathlib.Core.Logic.{_↔_, _⊎_, inl, inr, ⊎-elim}
+use mathlib.Core.Logic.{⊎-elim}
 use mathlib.Core.List.{List}
-use mathlib.Core.Path.{_≡_, refl, sym, ap, ap₂, subst, _∙_}
+use mathlib.Core.Path.{_≡_, sym, _∙_}
 use Prim.Native.Nat.{ℕ, zero, suc, _+_, _^_, _≤_, _<_}
 use native.Mathlib.Nat.{pow-suc}
 use native.Mathlib.Omega.{arith}
-use lib.Dec.{T}
 use lib.ListN.{length, getD}
 use lib.Pow.{pow-mono}
 use lib.Seq.{ext-getD}
-use Rattle.schedule.specs.Jobs.{Jobs}
-use Rattle.schedule.specs.Plan.{Valid, Meets, HasPlan}
-use Rattle.schedule.specs.Times.{Earliest, Latest}
-use Rattle.schedule.specs.Listed.{Listed, Chain, Reads, written}
-use Rattle.schedule.specs.Grow.{Renumbered}
-use Rattle.schedule.specs.Book.{Holds}
-use Rattle.schedule.proofs.Tests.{le-or-lt}
-use Rattle.schedule.proofs.Early.{earliest-one}
-use Rattle.schedule.proofs.Exist.{latest-one}
-use Rattle.schedule.proofs.Renumber.{earliest-along, latest-along}
+use Rattle.schedule.specs.Listed.{Listed}
+use Rattle.schedule.proofs.Tests.{le-or-lt, same-test}
+use Rattle.schedule.proofs.Same.{reads-one, holds-one}
 use Rattle.planner.specs.declared.book.Book.{Book}
 use Rattle.planner.specs.Sets.{has}
-use Rattle.planner.specs.Told.{jobs-of, latest-of, Shaped, Told}
+use Rattle.planner.specs.Told.{jobs-of, latest-of, Told}
 use Rattle.planner.proofs.Bits.{has-same}
-
--- two tests that imply each other are one
-pub same-test : (a b : Bool) → (T a → T b) → (T b → T a) → a ≡ b
-same-test true true f g = refl
-same-test true false f g = absurd (f tt)
-same-test false true f g = absurd (g tt)
-same-test false false f g = refl
-
--- two readings of one list
-pub reads-one : (L : Listed) (J K : Jobs) → Reads L J → Reads L K → Renumbered J K (λ i. i) (λ i. i)
-reads-one L J K r s = record {
-  size = size;
-  of-held = λ i l. l;
-  to-held = λ i l. l;
-  of-to = λ i l. refl;
-  to-of = λ i l. refl;
-  starts = λ i l. s .start i (omega arith) ∙ sym (r .start i l);
-  chains = λ a b la lb. same-test (K .before a b) (J .before a b)
-      (λ t. r .before a b la lb .1 (s .before a b (omega arith) (omega arith) .0 t))
-      (λ t. s .before a b (omega arith) (omega arith) .1 (r .before a b la lb .0 t));
-}
-  where
-    size : K .size ≡ J .size
-    size = s .size ∙ sym (r .size)
-
--- have the same latest times
-pub holds-one : (m : ℕ) (L : Listed) (J K : Jobs) (times other : ℕ → ℕ) → Holds m L J times → Holds m L K other → (i : ℕ) → i < J .size → times i ≡ other i
-holds-one m L J K times other h k i l =
-    let r : Renumbered K J (λ i. i) (λ i. i) = reads-one L K J (k .reads) (h .reads) in
-    let e : Earliest J (k .early) = earliest-along K J (λ i. i) (λ i. i) r (k .early) (k .early) (λ i l. refl) (k .earliest) in
-    let a : Latest m J (h .early) (written L) other = latest-along m K J (λ i. i) (λ i. i) r (k .early) (h .early) (written L) (written L) other other
-    (λ i l. earliest-one J (h .early) (k .early) (h .earliest) e i (omega (arith, r .size))) (λ i l. refl) (λ i l. refl) (k .latest) in
-    latest-one m J (h .early) (written L) times other (h .latest) a i l
-
--- and the same plans
-pub plan-one : (m : ℕ) (L : Listed) (J K : Jobs) (due : ℕ → ℕ) → Reads L J → Reads L K → HasPlan m J due → HasPlan m K due
-plan-one m L J K due r s p =
-    let x : Renumbered J K (λ i. i) (λ i. i) = reads-one L J K r s in (
-      p .0,
-      record {
-        room = λ t. rw (x .size) (p .1 .room t);
-        begun = λ i l. let h : i < J .size = omega (arith, x .size) in omega (arith, x .starts i h, p .1 .begun i h);
-        ordered = λ a b la lb t.
-            let ha : a < J .size = omega (arith, x .size) in
-            let hb : b < J .size = omega (arith, x .size) in
-            p .1 .ordered a b ha hb (rw (x .chains a b ha hb) at t);
-      },
-      record { ends = λ i l. p .2 .ends i (omega (arith, x .size)) },
-    )
 
 -- rows that agree below n and are 0 from there on
 row-same : (n : ℕ) (x y : List ℕ) → length x ≡ 64 → length y ≡ 64 → ((i : ℕ) → i < n → getD x i 0 ≡ getD y i 0) →
@@ -86,7 +28,7 @@ below-pow zero = omega arith
 below-pow (suc n) = rw pow-suc (omega (arith, below-pow n))
 
 -- sets with the same members are the same number
-digits-same : (x y : ℕ) → ((j : ℕ) → has x j ≡ has y j) → x ≡ y
+pub digits-same : (x y : ℕ) → ((j : ℕ) → has x j ≡ has y j) → x ≡ y
 digits-same x y h = has-same (x + y) x y (low x y) (high y x) (λ j l. h j)
   where
     low : (x y : ℕ) → x < 2 ^ (x + y)
@@ -121,10 +63,3 @@ module _ (L : Listed) (b k : Book) (s : Told b L) (t : Told k L) where
   -- a list has one book
   pub told-one : b ≡ k
   told-one = λ i. record { size = size-same i; start = start-same i; latest = latest-same i; before = before-same i }
-
--- latest times over one earliest row are latest times over any: what an engine shows of its own row serves the contract
-pub latest-any : (m : ℕ) (J : Jobs) (early other due row : ℕ → ℕ) → Earliest J early → Earliest J other → Latest m J early due row → Latest m J other due row
-latest-any m J early other due row e o a =
-    latest-along m J J (λ i. i) (λ i. i)
-    (record { size = refl; of-held = λ i l. l; to-held = λ i l. l; of-to = λ i l. refl; to-of = λ i l. refl; starts = λ i l. refl; chains = λ a b la lb. refl })
-    early other due due row row (λ i l. earliest-one J other early o e i l) (λ i l. refl) (λ i l. refl) a

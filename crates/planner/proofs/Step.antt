@@ -2,40 +2,34 @@
 -- Assumes nothing.
 use mathlib.Core.Path.{_≡_, refl, sym, ap, subst, _∙_, fun-ext}
 use mathlib.Core.Bool.{Bool, true, false}
-use mathlib.Core.List.{List, [], _∷_, _++_}
+use mathlib.Core.List.{List, [], _∷_}
 use mathlib.Core.Logic.{_⊎_, inl, inr, ⊎-elim}
 use Prim.Native.Nat.{ℕ, zero, suc, _+_, _%_, _^_, min, _≤_, _<_}
-use native.Mathlib.Nat.{zero-div, le-trans, le-of-eq}
+use native.Mathlib.Nat.{zero-div}
 use native.Mathlib.Omega.{arith}
 use lib.Dec.{T, eqb}
 use lib.ListN.{length, getD, set, replicate, length-set, length-append, List·getD-eq-default}
 use lib.Seq.{getD-set-same, getD-set-other}
 use Rattle.schedule.specs.Row.{put}
-use Rattle.schedule.specs.Jobs.{Jobs}
-use Rattle.schedule.specs.Plan.{HasPlan}
-use Rattle.schedule.specs.Times.{Earliest, Latest}
-use Rattle.schedule.specs.Listed.{Listed, Chain, join, Looped, Reads, written, with-job, with-order, with-deadline}
+use Rattle.schedule.specs.Listed.{Listed, Chain, written, with-job, with-order, with-deadline}
 use Rattle.schedule.specs.Grow.{Added, Linked}
-use Rattle.schedule.specs.Book.{Holds}
 use Rattle.schedule.proofs.Tests.{le-or-lt}
 use Rattle.schedule.proofs.Rows.{put-all, put-other}
-use Rattle.schedule.proofs.Early.{exists-earliest}
 use Rattle.schedule.proofs.Loop.{put-set}
-use Rattle.schedule.proofs.Chains.{reads-closed, reads-loopless, chain-grows, ordered-append, added-reads, linked-reads, getD-put}
-use Rattle.schedule.proofs.Made.{row-has-plan}
-use Rattle.schedule.proofs.Theorem.{resume-new-job, resume-new-order, resume-earlier-deadline}
-use Rattle.schedule.proofs.Book.{holds-nothing, holds-job, holds-order, holds-followed, holds-kept, holds-deadline}
+use Rattle.schedule.proofs.Chains.{reads-closed, reads-loopless, getD-put}
+use Rattle.schedule.proofs.Onward.{Onward, holds-planned, onward-job, onward-order, onward-deadline}
+use Rattle.schedule.proofs.Book.{holds-nothing, holds-followed, holds-kept}
 use Rattle.planner.specs.declared.book.Book.{Book}
-use Rattle.planner.specs.declared.refusal.Answer.the-variants.{Accepted, Refused}
+use Rattle.planner.specs.declared.refusal.Answer.the-variants.{Accepted}
 use Rattle.planner.specs.declared.book.Applied.{Applied}
 use Rattle.planner.specs.Sets.{has}
 use Rattle.planner.specs.Told.{jobs-of, latest-of, Shaped, Limited, Told, nothing-listed}
-use Rattle.planner.specs.Unless.{Unless, refused, passed}
-use Rattle.planner.specs.Outcome.{Planned, acceptance, Grown, Judged}
-use Rattle.planner.specs.Inner.Book.{Ready, Tight, Settled, none, fits, with-latest}
+use Rattle.planner.specs.Unless.{refused, passed}
+use Rattle.planner.specs.Outcome.{acceptance, Judged}
+use Rattle.planner.specs.Inner.Book.{Ready, Tight, Settled, none, fits}
 use Rattle.planner.specs.Inner.Chains.{Links}
 use Rattle.planner.specs.Inner.Tighten.{Tightens}
-use Rattle.planner.proofs.Same.{plan-one}
+use Rattle.schedule.proofs.Same.{plan-one}
 
 pub zeros : (n i : ℕ) → _≡_ {A = ℕ} (getD (replicate n 0) i 0) 0
 zeros zero i = refl
@@ -68,14 +62,9 @@ pub false-T : (b : Bool) → b ≡ false → T b → ⊥
 false-T b e t = rw e at t
 
 -- ---- what holds of a list that is held
-pub holds-planned : (L : Listed) (J : Jobs) (times : ℕ → ℕ) → Holds 2 L J times → Planned L
-holds-planned L J times h =
-    let p = row-has-plan 2 J (h .early) times (omega arith) (omega arith) (reads-closed L J (h .reads)) (h .earliest) (h .latest .consistent) in
-    (J, h .reads, (p .0, p .1, record { ends = λ i l. le-trans (p .2 .ends i l) (h .latest .beneath i l) }))
-
 -- a book that holds the enlarged list is accepted
 pub told-judged : (L : Listed) (value : ℕ) (k : Book) (r : Applied) → r .answer ≡ Accepted value → Told (r .book) L → Judged L value k r
-told-judged L value k r e t = passed (λ no. no (holds-planned L (jobs-of (r .book)) (latest-of (r .book)) (t .holds))) (record { answer = e; told = t })
+told-judged L value k r e t = passed (λ no. no (holds-planned 2 (omega arith) (omega arith) L (jobs-of (r .book)) (latest-of (r .book)) (t .holds))) (record { answer = e; told = t })
 
 pub accepted-judged : (L : Listed) (value : ℕ) (k next : Book) (r : Applied) → r ≡ acceptance next value → Told next L → Judged L value k r
 accepted-judged L value k next r e t = rw e (told-judged L value k _ refl t)
@@ -84,13 +73,8 @@ accepted-judged L value k next r e t = rw e (told-judged L value k _ refl t)
 pub record Grows (L : Listed) (grown : Book) : Type 0 where
   pub shaped : Shaped grown
   pub limited : Limited L
-  pub reads : Reads L (jobs-of grown)
-  pub loopless : Looped L → ⊥
-  pub early : ℕ → ℕ
-  pub earliest : Earliest (jobs-of grown) early
   pub late : (i : ℕ) → i < grown .size → latest-of grown i ≤ 4096
-  pub holds : (row : ℕ → ℕ) → Latest 2 (jobs-of grown) early (latest-of grown) row → Holds 2 L (jobs-of grown) row
-  pub plans : HasPlan 2 (jobs-of grown) (written L) → HasPlan 2 (jobs-of grown) (latest-of grown)
+  pub onward : Onward 2 L (jobs-of grown) (latest-of grown)
 
 pub grows-ready : (L : Listed) (grown : Book) → Grows L grown → Ready grown
 grows-ready L grown g = record {
@@ -98,10 +82,10 @@ grows-ready L grown g = record {
   rows = record {
     few = g .shaped .few;
     long = g .shaped .latests;
-    early = λ i l. omega (arith, g .reads .start i l, g .limited .start i (omega (arith, g .reads .size)));
+    early = λ i l. omega (arith, g .onward .reads .start i l, g .limited .start i (omega (arith, g .onward .reads .size)));
     late = g .late;
-    closed = reads-closed L (jobs-of grown) (g .reads);
-    loopless = reads-loopless L (jobs-of grown) (g .reads) (g .loopless);
+    closed = reads-closed L (jobs-of grown) (g .onward .reads);
+    loopless = reads-loopless L (jobs-of grown) (g .onward .reads) (g .onward .loopless);
     held = g .shaped .before-rest;
   };
 }
@@ -111,7 +95,7 @@ pub tightens-tight : (k : Book) (row : List ℕ) → Shaped k → Tightens (k .s
 tightens-tight k row s t = record { size = t .length; rest = λ i l. t .rest refl i l ∙ s .latest-rest i l; latest = t .latest refl }
 
 pub settled-judged : (L : Listed) (k grown : Book) (value : ℕ) (r : Applied) → Grows L grown → Settled k grown value r → Judged L value k r
-settled-judged L k grown value r g (none x e) = refused (λ p. x (g .plans (plan-one 2 L (p .0) (jobs-of grown) (written L) (p .1) (g .reads) (p .2)))) e
+settled-judged L k grown value r g (none x e) = refused (λ p. x (g .onward .plans (plan-one 2 L (p .0) (jobs-of grown) (written L) (p .1) (g .onward .reads) (p .2)))) e
 settled-judged L k grown value r g (fits row t e) = rw e (told-judged L value k _ refl (record {
   shaped = record {
     few = g .shaped .few;
@@ -123,7 +107,7 @@ settled-judged L k grown value r g (fits row t e) = rw e (told-judged L value k 
     before-rest = g .shaped .before-rest;
   };
   limited = g .limited;
-  holds = g .holds (λ i. getD row i 0) (t .latest (g .early) (g .earliest));
+  holds = g .onward .holds (λ i. getD row i 0) (t .latest (g .onward .early) (g .onward .earliest));
 }))
 
 -- a stored entry, as a row
@@ -184,31 +168,13 @@ module _ (L : Listed) (k : Book) (t : Told k L) where
           (λ f z. t .limited .deadline i (omega (arith, t .holds .formed .even))) n);
     }
 
-    same : (i : ℕ) → i < jobs-of added .size → written (with-job L s d) i ≡ put (written L) (k .size) d i
-    unfolding with-job written
-    same i l = rw (getD-put (L .deadlines) d 0 i (omega (arith, size-is, t .holds .formed .even)), t .holds .formed .even, size-is) refl
-
     pub job-grows : Grows (with-job L s d) added
     job-grows = record {
       shaped = shaped;
       limited = limited;
-      reads = reads;
-      loopless = unfold with-job in (t .holds .loopless);
-      early = x .0;
-      earliest = x .1;
       late = λ i l. subst (λ (row : ℕ → ℕ). row i ≤ 4096) (sym due) (put-all (λ (x y : ℕ). x < k .size + 1 → y ≤ 4096) (latest-of k) (k .size) d i (λ z. high) (λ f z. latest-limit i (omega arith)) l);
-      holds = λ row a. holds-job 2 (omega arith) (omega arith) L (jobs-of k) (jobs-of added) (latest-of k) (x .0) row (t .holds) (x .1) s d added-added (rw due at a);
-      plans = λ p. rw due (resume-new-job 2 (omega arith) (omega arith) (jobs-of k) (jobs-of added) (t .holds .early) (x .0) (written L) (latest-of k)
-          (reads-closed (with-job L s d) (jobs-of added) reads) (t .holds .earliest) (x .1) (t .holds .latest) s d added-added .same-verdict .0
-          (p .0, p .1, record { ends = λ i l. le-trans (p .2 .ends i l) (le-of-eq (same i l)) }));
+      onward = rw due (onward-job 2 (omega arith) (omega arith) L (jobs-of k) (latest-of k) (t .holds) (jobs-of added) s d added-added);
     }
-      where
-        reads : Reads (with-job L s d) (jobs-of added)
-        reads = added-reads L (jobs-of k) (jobs-of added) (t .holds .formed) (t .holds .reads) s d added-added
-
-        x : (early : ℕ → ℕ) × Earliest (jobs-of added) early
-        x = exists-earliest (jobs-of added) (reads-closed (with-job L s d) (jobs-of added) reads)
-            (reads-loopless (with-job L s d) (jobs-of added) reads (unfold with-job in (t .holds .loopless)))
 
   -- an order of two jobs
   module _ (a b : ℕ) (la : a < k .size) (lb : b < k .size) where
@@ -240,21 +206,6 @@ module _ (L : Listed) (k : Book) (t : Told k L) where
           (λ u. (⊎-elim (λ e. omega arith) (λ v. t .shaped .before-rest x a v .0) (u .0), ⊎-elim (λ e. omega arith) (λ v. t .shaped .before-rest b y v .1) (u .1)))
           (links x y .0 z)
 
-      -- (the theory proves this inside holds-order only)
-      order-loopless : Looped (with-order L a b) → ⊥
-      unfolding with-order
-      order-loopless y = ⊎-elim (λ c. t .holds .loopless (y .0, c)) (λ c. closes (y .0) (c .0) (c .1))
-          (chain-grows (L .orders) (L .orders ++ ((a, b) ∷ [])) a b (ordered-append (L .orders) a b) (y .0) (y .0) .0 (y .1))
-        where
-          back : Chain (L .orders) b a → ⊥
-          back c = free (t .holds .reads .before b a lb la .1 c)
-
-          closes : (p : ℕ) → (p ≡ a) ⊎ Chain (L .orders) p a → (b ≡ p) ⊎ Chain (L .orders) b p → ⊥
-          closes p (inl s) (inl t) = apart (sym (t ∙ s))
-          closes p (inl s) (inr t) = back (subst (Chain (L .orders) b) s t)
-          closes p (inr s) (inl t) = back (subst (λ i. Chain (L .orders) i a) (sym t) s)
-          closes p (inr s) (inr t) = back (join t s)
-
       pub order-grows : Grows (with-order L a b) ordered
       order-grows = record {
         shaped = record {
@@ -267,21 +218,9 @@ module _ (L : Listed) (k : Book) (t : Told k L) where
           before-rest = held;
         };
         limited = order-limited;
-        reads = reads;
-        loopless = order-loopless;
-        early = x .0;
-        earliest = x .1;
         late = latest-limit;
-        holds = λ row w. holds-order 2 (omega arith) (omega arith) L (jobs-of k) (jobs-of ordered) (latest-of k) (x .0) row (t .holds) (x .1) a b la lb apart free ordered-linked w;
-        plans = unfold with-order written in (resume-new-order 2 (omega arith) (omega arith) (jobs-of k) (jobs-of ordered) (t .holds .early) (x .0) (written L) (latest-of k)
-            (reads-closed (with-order L a b) (jobs-of ordered) reads) (t .holds .earliest) (x .1) (t .holds .latest) a b ordered-linked .same-verdict .0);
+        onward = onward-order 2 (omega arith) (omega arith) L (jobs-of k) (latest-of k) (t .holds) (jobs-of ordered) a b la lb apart free ordered-linked;
       }
-        where
-          reads : Reads (with-order L a b) (jobs-of ordered)
-          reads = linked-reads L (jobs-of k) (jobs-of ordered) (t .holds .formed) (t .holds .reads) a b la lb ordered-linked
-
-          x : (early : ℕ → ℕ) × Earliest (jobs-of ordered) early
-          x = exists-earliest (jobs-of ordered) (reads-closed (with-order L a b) (jobs-of ordered) reads) (reads-loopless (with-order L a b) (jobs-of ordered) reads order-loopless)
 
   -- an earlier deadline
   module _ (j d : ℕ) (lj : j < k .size) (high : d ≤ 4096) where
@@ -304,15 +243,6 @@ module _ (L : Listed) (k : Book) (t : Told k L) where
       drawn-due : latest-of drawn ≡ put (latest-of k) j d
       drawn-due = set-put (k .latest) j d (omega (arith, t .shaped .latests, t .shaped .few))
 
-      under : d ≤ written L j
-      under = omega (arith, t .holds .latest .beneath j lj)
-
-      drawn-same : (i : ℕ) → i < k .size → written (with-deadline L j d) i ≡ put (written L) j d i
-      unfolding with-deadline written
-      drawn-same i l =
-          let e : min (getD (L .deadlines) j 0) d ≡ d = omega (arith, under) in
-          rw e (sym (put-set (L .deadlines) j d 0 i (omega (arith, size-is, t .holds .formed .even))))
-
       pub deadline-grows : Grows (with-deadline L j d) drawn
       deadline-grows = record {
         shaped = record {
@@ -325,12 +255,6 @@ module _ (L : Listed) (k : Book) (t : Told k L) where
           before-rest = t .shaped .before-rest;
         };
         limited = deadline-limited;
-        reads = unfold with-deadline in (record { size = t .holds .reads .size; start = t .holds .reads .start; before = t .holds .reads .before });
-        loopless = unfold with-deadline in (t .holds .loopless);
-        early = t .holds .early;
-        earliest = t .holds .earliest;
         late = λ i l. subst (λ (row : ℕ → ℕ). row i ≤ 4096) (sym drawn-due) (put-all (λ (x y : ℕ). x < k .size → y ≤ 4096) (latest-of k) j d i (λ z. high) (λ f z. latest-limit i z) l);
-        holds = λ row a. holds-deadline 2 L (jobs-of k) (latest-of k) (t .holds) j d lj (omega arith) (omega arith) less row (rw drawn-due at a);
-        plans = λ p. rw drawn-due (resume-earlier-deadline 2 (omega arith) (omega arith) (jobs-of k) (t .holds .early) (written L) (latest-of k) (reads-closed L (jobs-of k) (t .holds .reads))
-            (t .holds .earliest) (t .holds .latest) j d under .same-verdict .0 (p .0, p .1, record { ends = λ i l. le-trans (p .2 .ends i l) (le-of-eq (drawn-same i l)) }));
+        onward = rw drawn-due (onward-deadline 2 (omega arith) (omega arith) L (jobs-of k) (latest-of k) (t .holds) j d lj less);
       }

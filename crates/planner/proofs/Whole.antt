@@ -20,8 +20,8 @@ use Rattle.planner.specs.Unless.{Unless, refused, passed}
 use Rattle.planner.specs.Outcome.{Planned}
 use Rattle.planner.specs.Judged.{list-of, Unsound, number-for, Looping, turned-down, Fitted}
 use Rattle.planner.specs.Inner.List.{First, Numbers, Held, Spells, Settleable, Settles, none, fits}
-use Rattle.planner.proofs.Same.{reads-one, plan-one}
-use Rattle.planner.proofs.Step.{holds-planned}
+use Rattle.schedule.proofs.Same.{reads-one, plan-one}
+use Rattle.schedule.proofs.Onward.{holds-planned}
 use Rattle.planner.proofs.Pairs.{pairs-held, pairs-loopless}
 
 -- ---- a check of every place that found none
@@ -93,7 +93,7 @@ module _ (starts deadlines pairs before : List ℕ) (s : Sound starts deadlines 
   settles-judged row after r (none x e w) = refused (λ p. x (plan-one 2 L (p .0) J (written L) (p .1) reads (p .2))) (λ i. record { answer = e i; row = w i })
   settles-judged row after r (fits times x e h) =
       let holds = holds-row (row-in times) (row-in after) (h .front) x in
-      passed (λ no. no (holds-planned L J (row-in after) holds)) (record { answer = e; same-length = h .same-length; jobs = J; holds = holds; rest = h .rest })
+      passed (λ no. no (holds-planned 2 (omega arith) (omega arith) L J (row-in after) holds)) (record { answer = e; same-length = h .same-length; jobs = J; holds = holds; rest = h .rest })
 
 -- jobs held are jobs below 64
 pub held-few : (size : ℕ) (pairs : List ℕ) → size ≤ 64 → Held size pairs → Held 64 pairs

@@ -4,5 +4,6 @@ pub mod Told
 pub mod Unless
 pub mod Answer
 pub mod Outcome
+pub mod Planned
 pub mod Judged
 pub mod Inner

@@ -1,4 +1,6 @@
 // Answers, the numbers of refusal and their classes.
+use schedule::CoreIndex;
+use schedule::SlotTime;
 ghost use mathlib.Core.Path.{_≡_};
 ghost use Rattle.planner.specs.Answer.{class-of};
 
@@ -6,6 +8,18 @@ pub enum Answer {
     // what is answered
     Accepted(usize),
     // the number of the refusal, and what is returned with it
+    Refused(u8, usize),
+}
+
+pub struct Place {
+    pub slot: SlotTime,
+    pub core: CoreIndex,
+    pub end: usize,
+    pub spare: usize,
+}
+
+pub enum Placed {
+    At(Place),
     Refused(u8, usize),
 }
 

@@ -2,10 +2,10 @@
 use schedule::JobIndex;
 ghost use mathlib.Core.Bool.{_&&_, _||_, not};
 ghost use mathlib.Core.Path.{_≡_};
-ghost use Prim.Native.Nat.{ℕ, _<_};
-ghost use lib.Dec.{eqb};
+ghost use Prim.Native.Nat.{ℕ, _<_, _≤_};
+ghost use lib.Dec.{T, eqb, ltb};
 ghost use Rattle.schedule.specs.Count.{count};
-ghost use Rattle.planner.specs.Sets.{has};
+ghost use Rattle.planner.specs.Sets.{has, pressed};
 
 // Whether a job is in the set.
 pub fn has(set: u64, job: JobIndex) -> bool
@@ -36,4 +36,31 @@ pub fn size(set: u64) -> usize
     ensures { λ r. ⌜ r ≡ count 64 (has set) ⌝ }
 {
     u64::count_ones(set) as usize
+}
+
+// The jobs below n.
+pub fn below(n: usize) -> u64
+    requires { ⌜ n ≤ 64 ⌝ }
+    ensures { λ r. ⌜ ((j : ℕ) → has r j ≡ ltb j n) ⌝ }
+{
+    if n == 64 {
+        return !0u64;
+    }
+    (1u64 << n) - 1
+}
+
+// The first job of a set that has one.
+pub fn first(set: u64) -> JobIndex
+    requires { ⌜ (set ≡ 0 → ⊥) ⌝ }
+    ensures { λ r. ⌜ (r .0 < 64) × T (has set (r .0)) ⌝ }
+{
+    JobIndex(u64::trailing_zeros(set) as usize)
+}
+
+// N: how many jobs other than this one are due, and follow it or start late.
+pub fn pressing(due: u64, followers: u64, late: u64, job: JobIndex) -> usize
+    requires { ⌜ job .0 < 64 ⌝ }
+    ensures { λ r. ⌜ r ≡ count 64 (pressed due followers late (job .0)) ⌝ }
+{
+    size(without(due & (followers | late), job))
 }

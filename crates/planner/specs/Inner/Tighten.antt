@@ -6,7 +6,7 @@ use mathlib.Core.Path.{_≡_}
 use Prim.Native.Nat.{ℕ, _≤_, _<_}
 use lib.Dec.{T}
 use lib.ListN.{length, getD}
-use Rattle.schedule.specs.Jobs.{Jobs, Closed, Loopless}
+use Rattle.schedule.specs.Jobs.{Closed, Loopless}
 use Rattle.schedule.specs.Plan.{HasPlan}
 use Rattle.schedule.specs.Times.{Earliest, Latest}
 use Rattle.planner.specs.Sets.{has}

@@ -1,7 +1,7 @@
 -- `planner::sets::with` meets its contract.
 -- Assumes nothing.
-use Rattle.planner.proofs.Bits.{with-has}
 use borrow.Author.Needs.{needs}
+use Rattle.planner.proofs.Bits.{with-has}
 use Rattle.planner.proofs.sets.with.Statement.{statement}
 use Rattle.planner.proofs.sets.with.Tie as tie
 

@@ -1,7 +1,7 @@
 -- `planner::sets::without` meets its contract.
 -- Assumes nothing.
-use Rattle.planner.proofs.Bits.{without-has}
 use borrow.Author.Needs.{needs}
+use Rattle.planner.proofs.Bits.{without-has}
 use Rattle.planner.proofs.sets.without.Statement.{statement}
 use Rattle.planner.proofs.sets.without.Tie as tie
 

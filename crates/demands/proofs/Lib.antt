@@ -1,0 +1,4 @@
+-- The proofs of the three demands.
+pub mod First
+pub mod Second
+pub mod Third

@@ -1,0 +1,87 @@
+-- Demand 3: a run leaves the book that the definition gives for the remaining list handed in at once, and 4 is told exactly where that list has no plan.
+-- Assumes nothing.
+use mathlib.Core.List.{List, [], _∷_, _++_}
+use mathlib.Core.Logic.{⊎-elim}
+use mathlib.Core.Path.{_≡_, refl, sym, ap, ap₂, _∙_}
+use Prim.Native.Nat.{ℕ, zero, suc, _+_, _*_, _/_, _≤_, _<_}
+use native.Mathlib.Omega.{arith}
+use lib.ListN.{length, getD, take}
+use lib.Seq.{take-suc, take-length}
+use Rattle.schedule.specs.Listed.{Listed}
+use Rattle.planner.specs.declared.book.Book.{Book}
+use Rattle.planner.specs.declared.book.Request.{Request}
+use Rattle.planner.specs.declared.book.Request.the-variants.{Job, Before, Earlier}
+use Rattle.planner.specs.declared.book.Applied.{Applied}
+use Rattle.planner.specs.declared.refusal.Answer.{Answer}
+use Rattle.planner.specs.declared.refusal.Answer.the-variants.{Accepted, Refused}
+use Rattle.planner.specs.Told.{latest-of}
+use Rattle.planner.specs.Unless.{refused, passed}
+use Rattle.planner.specs.Outcome.{Planned, Judged, Outcome, grow, Run}
+use Rattle.planner.specs.Judged.{first-of, second-of, pairs-of, list-of, Misshapen, Judges}
+use Rattle.planner.proofs.Once.{run-told, run-one}
+use Rattle.planner.proofs.Judged.{unless-free, list-is-requests}
+use Rattle.demands.specs.Demands.{Sound, Demand3}
+use Rattle.demands.proofs.Second.{refused-hopeless}
+
+-- ---- handed in at once
+at-once : (starts deadlines pairs old new : List ℕ) (k : Book) (r : Answer) → Run (list-of starts deadlines pairs) k → (Misshapen starts deadlines pairs old → ⊥) →
+    Judges starts deadlines pairs old new r → (r ≡ Accepted 0) × ((i : ℕ) → i < k .size → getD new i 0 ≡ latest-of k i)
+at-once starts deadlines pairs old new k r run form j =
+    let x = list-is-requests starts deadlines pairs old _ j in
+    let t = run-told (list-of starts deadlines pairs) k run in
+    let a = x .accepted form k t in
+    (a, λ i l. x .times a k t i (omega (arith, t .holds .reads .size)))
+
+-- orders laid flat
+abbrev flat : List (ℕ × ℕ) → List ℕ
+flat [] = []
+flat (p ∷ rest) = p .0 ∷ p .1 ∷ flat rest
+
+flat-length : (orders : List (ℕ × ℕ)) → length (flat orders) ≡ 2 * length orders
+flat-length [] = refl
+flat-length (p ∷ rest) = omega (arith, flat-length rest)
+
+flat-at : (orders : List (ℕ × ℕ)) (n : ℕ) → n < length orders → (first-of (flat orders) n, second-of (flat orders) n) ≡ getD orders n (0, 0)
+flat-at [] n l = absurd (omega arith)
+flat-at (p ∷ rest) zero l = refl
+flat-at (p ∷ rest) (suc n) l =
+    ap₂ (λ (a b : ℕ). (getD (flat (p ∷ rest)) a 0, getD (flat (p ∷ rest)) b 0)) (let e : 2 * suc n ≡ suc (suc (2 * n)) = omega arith in e)
+    (let e : 2 * suc n + 1 ≡ suc (suc (2 * n + 1)) = omega arith in e) ∙ flat-at rest n (omega arith)
+
+flat-pairs : (orders : List (ℕ × ℕ)) (n : ℕ) → n ≤ length orders → pairs-of (flat orders) n ≡ take n orders
+unfolding pairs-of
+flat-pairs orders zero l = refl
+flat-pairs orders (suc n) l =
+    ap₂ (λ (a : List (ℕ × ℕ)) (p : ℕ × ℕ). a ++ (p ∷ [])) (flat-pairs orders n (omega arith)) (flat-at orders n l) ∙ sym (take-suc orders n (0, 0) l)
+
+in-rows : (L : Listed) → list-of (L .starts) (L .deadlines) (flat (L .orders)) ≡ L
+in-rows L =
+    let half : length (flat (L .orders)) / 2 ≡ length (L .orders) = omega (arith, flat-length (L .orders)) in
+    let e : pairs-of (flat (L .orders)) (length (flat (L .orders)) / 2) ≡ L .orders =
+    ap (pairs-of (flat (L .orders))) half ∙ flat-pairs (L .orders) (length (L .orders)) (omega arith) ∙ take-length (L .orders) in
+    λ i. record { starts = L .starts; deadlines = L .deadlines; orders = e i }
+
+-- ---- a sound request is refused only for want of a plan
+judged-refused : (L : Listed) (value : ℕ) (k : Book) (r : Applied) → (Planned L → ⊥) → Judged L value k r → r .answer ≡ Refused 4 0
+judged-refused L value k r none (refused x e) = ap (λ (y : Applied). y .answer) e
+judged-refused L value k r none (passed x y) = absurd (x none)
+
+hopeless-refused : (L : Listed) (k : Book) (q : Request) (r : Applied) → Sound L q → (Planned (grow L q) → ⊥) → Outcome L k q r → r .answer ≡ Refused 4 0
+hopeless-refused L k (Job s d) r x none o =
+    judged-refused _ _ k r none (unless-free _ _ _ r (λ f. omega (arith, x .3)) (unless-free _ _ _ r (λ f. ⊎-elim (λ g. omega (arith, x .1)) (λ g. omega (arith, x .2)) f)
+    (unless-free _ _ _ r (λ f. omega (arith, x .0)) o)))
+hopeless-refused L k (Before a b) r x none o =
+    judged-refused _ _ k r none (unless-free _ _ _ r (λ f. ⊎-elim (x .2) (x .3) f) (unless-free _ _ _ r (λ f. ⊎-elim (λ g. omega (arith, x .0)) (λ g. omega (arith, x .1)) f) o))
+hopeless-refused L k (Earlier j d) r x none o =
+    judged-refused _ _ k r none (unless-free _ _ _ r (λ f. omega (arith, x .2)) (unless-free _ _ _ r (λ f. omega (arith, x .1)) (unless-free _ _ _ r (λ f. omega (arith, x .0)) o)))
+
+pub demand-3 : Demand3
+demand-3 = record {
+  held = run-told;
+  at-once = at-once;
+  in-rows = λ L k run. (flat (L .orders), in-rows L, flat-length (L .orders));
+  one-book = run-one;
+  refused = λ L k q r run x sound.
+      let o = x .outcome L (run-told L k run) in
+      ((λ a. refused-hopeless L k q r 0 a o), (λ none. hopeless-refused L k q r sound none o));
+}

@@ -1,0 +1,88 @@
+-- The customer's three demands, of what the public calls promise: apply (`Applies`), judge (`Judges`), plan (`Plans`), place (`Places`),
+-- read (`ReadsRecord`), read_file (`ReadsFile`) and write (`WritesBook`). That a call ends is what a proved function means.
+-- Assumes nothing.
+use mathlib.Core.List.{List}
+use mathlib.Core.Logic.{_↔_}
+use mathlib.Core.Path.{_≡_}
+use Prim.Native.Nat.{ℕ, _+_, _*_, _≤_, _<_}
+use lib.ListN.{length, getD}
+use Rattle.schedule.specs.Jobs.{Jobs}
+use Rattle.schedule.specs.Plan.{Valid, Meets, HasPlan, finish}
+use Rattle.schedule.specs.Timed.{HasTimed}
+use Rattle.schedule.specs.Clock.{Clock, HasClocked}
+use Rattle.schedule.specs.Listed.{Listed, Chain, Reads, written}
+use Rattle.planner.specs.declared.book.Book.{Book}
+use Rattle.planner.specs.declared.book.Request.{Request}
+use Rattle.planner.specs.declared.book.Request.the-variants.{Job, Before, Earlier}
+use Rattle.planner.specs.declared.book.Applied.{Applied}
+use Rattle.planner.specs.declared.refusal.Answer.{Answer}
+use Rattle.planner.specs.declared.refusal.Answer.the-variants.{Accepted, Refused}
+use Rattle.planner.specs.declared.refusal.Placed.the-variants as placed
+use Rattle.planner.specs.Told.{jobs-of, latest-of, Told, Made, nothing-listed}
+use Rattle.planner.specs.Outcome.{Planned, Applies, grow, Run}
+use Rattle.planner.specs.Judged.{list-of, Misshapen, Judges}
+use Rattle.planner.specs.Planned.{Plans, Places}
+use Rattle.jobfile.specs.declared.reader.Step.{Step}
+use Rattle.jobfile.specs.declared.reader.Event.the-variants.{Request as Asked, Stopped}
+use Rattle.jobfile.specs.Read.{ReadsRecord}
+use Rattle.jobfile.specs.File.{ReadsFile}
+use Rattle.jobfile.specs.Write.{WritesBook}
+use Rattle.jobfile.specs.RoundTrip.{ReadsBack}
+
+-- ---- 1. "Each refusal has a number; the book of jobs is then as it was before the call, and so is every byte of lent memory."
+-- a number of the table (01, Numbers of refusal)
+abbrev pub Numbered : ℕ → Type 0
+Numbered n = (1 ≤ n) × (n ≤ 11)
+
+pub record Demand1 : Type 0 where
+  pub request : (k : Book) (q : Request) (r : Applied) (n v : ℕ) → Made k → Applies k q r → r .answer ≡ Refused n v → Numbered n × (r .book ≡ k)
+  pub list : (starts deadlines pairs old new : List ℕ) (n v : ℕ) → Judges starts deadlines pairs old new (Refused n v) → Numbered n × (new ≡ old)
+  pub plan : (k : Book) (old new : List ℕ) (n v : ℕ) → Plans k old new (Refused n v) → Numbered n × (new ≡ old)
+  pub place : (k : Book) (job n v : ℕ) → Places k job (placed.Refused n v) → Numbered n
+  pub record-read : (k : Book) (file : List ℕ) (at : ℕ) (r : Step) (n v : ℕ) → Made k → ReadsRecord k file at r → r .event ≡ Asked (Refused n v) →
+      Numbered n × (r .book ≡ k) × (r .at ≡ at + 6)
+  pub record-stopped : (k : Book) (file : List ℕ) (at : ℕ) (r : Step) (n v : ℕ) → Made k → ReadsRecord k file at r → r .event ≡ Stopped n v →
+      Numbered n × (r .book ≡ k) × (r .at ≡ at)
+  pub written : (k : Book) (old new : List ℕ) (n v : ℕ) → WritesBook k old new (Refused n v) → Numbered n × (new ≡ old)
+
+-- ---- 2. "A plan it hands out is a valid two-processor schedule .. and the finishing time told is that plan's."
+-- the bytes show a valid plan of the list, in time, that finishes when told
+pub record Shown (L : Listed) (k : Book) (bytes : List ℕ) (told : ℕ) : Type 0 where
+  pub slot : ℕ → ℕ
+  pub valid : Valid 2 (jobs-of k) slot
+  pub meets : Meets (jobs-of k) (written L) slot
+  pub finishes : told ≡ finish (jobs-of k) slot
+  pub seats : (i : ℕ) → i < k .size → (c : ℕ) × (c < 2) × (getD bytes (2 * slot i + c) 255 ≡ i)
+
+-- "It says no plan only if no such schedule exists at all": in whole slots, in units of 1/u of a slot, or by any clock
+pub record Hopeless (L : Listed) : Type 1 where
+  pub whole : (J : Jobs) → Reads L J → HasPlan 2 J (written L) → ⊥
+  pub parts : (J : Jobs) (u : ℕ) → Reads L J → 1 ≤ u → HasTimed 2 u J (written L) → ⊥
+  pub clocks : (J : Jobs) (C : Clock) → Reads L J → HasClocked C 2 J (written L) → ⊥
+
+-- "A book written to a file and read into an empty book is the same book" is `ReadsBack`
+pub record Demand2 : Type 1 where
+  pub plan : (L : Listed) (k : Book) (old new : List ℕ) (told : ℕ) → Told k L → Plans k old new (Accepted told) → Shown L k new told
+  pub none : (L : Listed) (k : Book) (q : Request) (r : Applied) (v : ℕ) → Told k L → Applies k q r → r .answer ≡ Refused 4 v → Hopeless (grow L q)
+  pub none-listed : (starts deadlines pairs old new : List ℕ) (v : ℕ) → Judges starts deadlines pairs old new (Refused 4 v) → Hopeless (list-of starts deadlines pairs)
+  pub same-book : (k empty : Book) → Made k → Told empty nothing-listed → ReadsBack k empty
+
+-- ---- 3. "Take any run of new jobs, new orders and earlier deadlines on a book that began empty, and strike out the refused ones": `Run L k`, where L is the remaining list
+-- a request that earns no refusal before 4
+abbrev pub Sound : Listed → Request → Type 0
+Sound L (Job s d) = (length (L .starts) < 64) × (s ≤ 4095) × (d ≤ 4096) × (s < d)
+Sound L (Before a b) = (a .0 < length (L .starts)) × (b .0 < length (L .starts)) × (a .0 ≡ b .0 → ⊥) × (Chain (L .orders) (b .0) (a .0) → ⊥)
+Sound L (Earlier j d) = (j .0 < length (L .starts)) × (d ≤ 4096) × (getD (L .starts) (j .0) 0 < d)
+
+pub record Demand3 : Type 0 where
+  -- "The tightened deadlines .. are then exactly those that the definition gives for the remaining list"
+  pub held : (L : Listed) (k : Book) → Run L k → Told k L
+  -- "handed in at once": in whatever rows, it is accepted unless their form is bad, and the receiving row gets the book's latest times
+  pub at-once : (starts deadlines pairs old new : List ℕ) (k : Book) (r : Answer) → Run (list-of starts deadlines pairs) k → (Misshapen starts deadlines pairs old → ⊥) →
+      Judges starts deadlines pairs old new r → (r ≡ Accepted 0) × ((i : ℕ) → i < k .size → getD new i 0 ≡ latest-of k i)
+  -- every remaining list can be so handed in
+  pub in-rows : (L : Listed) (k : Book) → Run L k → (pairs : List ℕ) × (list-of (L .starts) (L .deadlines) pairs ≡ L) × (length pairs ≡ 2 * length (L .orders))
+  -- "and the plan": one remaining list leaves one book, whatever the run
+  pub one-book : (L : Listed) (k b : Book) → Run L k → Run L b → k ≡ b
+  -- "A sound request is refused for want of a plan exactly when the list accepted so far, with it added, has none."
+  pub refused : (L : Listed) (k : Book) (q : Request) (r : Applied) → Run L k → Applies k q r → Sound L q → (r .answer ≡ Refused 4 0) ↔ (Planned (grow L q) → ⊥)

@@ -1,0 +1,2 @@
+-- The three demands. "01" is the scope, "001" the paper that it rests on.
+pub mod Demands

@@ -1,0 +1,5 @@
+-- What keying promises, in the order to read it. "01" is the scope.
+pub mod Text
+pub mod File
+pub mod Keys
+pub mod Inner

@@ -1,0 +1,90 @@
+-- `planner::tighten::follow::capped` meets its contract.
+-- Assumes nothing.
+use mathlib.Core.Logic.{⊎-elim}
+use mathlib.Core.Path.{_≡_, sym, subst}
+use Prim.Native.Nat.{ℕ, _-_, _<_}
+use native.Mathlib.Omega.{arith}
+use borrow.Author.Needs.{needs}
+use lib.Dec.{T}
+use Rattle.schedule.specs.Count.{count}
+use Rattle.planner.specs.Sets.{has}
+use Rattle.schedule.specs.Jobs.{Jobs}
+use Rattle.schedule.specs.Times.{Raised}
+use Rattle.planner.specs.Told.{row-in}
+use Rattle.planner.specs.Inner.Lower.{Eased}
+use Rattle.planner.proofs.Bits.{walk-less, walk-sub}
+use Rattle.planner.proofs.TightenLower.{eased-same, eased-follow}
+use Rattle.planner.proofs.tighten.follow.capped.Statement.{statement}
+use Rattle.planner.proofs.tighten.follow.capped.Tie as tie
+
+abbrev Inv-loop : tie.InvT-loop
+Inv-loop held set row time₀ rest₀ time rest = ((a : ℕ) → T (has rest a) → T (has set a)) × ((J : Jobs) (early : ℕ → ℕ) (i : ℕ) → i < J .size → row-in row i ≡ held → ((j : ℕ) → T (has set j) → (j < J .size) × T (J .before i j)) → Raised J early → Eased J early (row-in row) i time)
+
+abbrev μ-loop : tie.MeasureT-loop
+μ-loop held set row time₀ rest₀ time rest = count 64 (has rest)
+
+loop-holds : tie.Need-loop-holds Inv-loop μ-loop
+loop-holds c = ((λ a t. t), (λ J early i l e f r. rw (sym e) (eased-same J early (row-in (c .args .row .now)) i l)))
+
+first-requires : tie.Need-first-requires Inv-loop μ-loop
+first-requires c κs = search needs
+
+mul-other : tie.Need-mul-other Inv-loop μ-loop
+mul-other c = search needs
+
+element-copy-out-other : tie.Need-element-copy-out-other Inv-loop μ-loop
+element-copy-out-other c = search needs
+
+returns : tie.Need-returns Inv-loop μ-loop
+returns c J early i l e f r =
+    let p = c .before .before .before .before .before in
+    let k = c .before .before .before .first in
+    let j = f (k .result .0) (p .loop .inv .0 (k .result .0) (k .ensures .1)) in
+    let row = row-in (p .before .args .row .now) in
+    let z : row (k .result .0) - 1 ≡ 0 = omega arith in
+    subst (λ (n : ℕ). Eased J early row i n) z (eased-follow J early row i l r (k .result .0) (j .0) (j .1) (p .loop .time) (p .loop .inv .1 J early i l e f r) (c .before .if1 .taken))
+
+sub-time : tie.Need-sub-time Inv-loop μ-loop
+sub-time c = search needs
+
+without-requires : tie.Need-without-requires Inv-loop μ-loop
+without-requires c κs = search needs
+
+loop-less : tie.Need-loop-less Inv-loop μ-loop
+loop-less c =
+    let k = c .before .before .before .first in
+    walk-less (c .before .before .before .before .before .loop .rest) (c .without .result) (k .result .0) (c .without .ensures) (k .ensures .0) (k .ensures .1)
+
+loop-again : tie.Need-loop-again Inv-loop μ-loop
+loop-again c =
+    let p = c .before .before .before .before .before in
+    let k = c .before .before .before .first in
+    let row = row-in (p .before .args .row .now) in (
+      (λ a t. p .loop .inv .0 a (walk-sub (p .loop .rest) (c .without .result) (k .result .0) (c .without .ensures) a t)),
+      (λ J early i l e f r.
+          let j = f (k .result .0) (p .loop .inv .0 (k .result .0) (k .ensures .1)) in
+          ⊎-elim
+          (λ w. rw (w .2) (eased-follow J early row i l r (k .result .0) (j .0) (j .1) (p .loop .time) (p .loop .inv .1 J early i l e f r) (w .0 .taken)))
+          (λ w. rw (w .1) (p .loop .inv .1 J early i l e f r))
+          (c .before .if1 .came)),
+    )
+
+returns-2 : tie.Need-returns-2 Inv-loop μ-loop
+returns-2 c = c .before .loop .inv .1
+
+pub capped-spec : {M : Type 1} → statement M
+capped-spec =
+    tie.close
+    (tie.spec
+    Inv-loop
+    μ-loop
+    loop-holds
+    first-requires
+    mul-other
+    element-copy-out-other
+    returns
+    sub-time
+    without-requires
+    loop-less
+    loop-again
+    returns-2)

@@ -1,0 +1,109 @@
+-- `planner::tighten::settled` meets its contract. The measure is the sum of the row: each pass that moves a job lowers it.
+-- Assumes nothing.
+use mathlib.Core.Path.{_≡_, sym, subst}
+use Prim.Native.Nat.{ℕ, _<_}
+use native.Mathlib.Omega.{arith}
+use borrow.Author.Needs.{needs}
+use lib.Dec.{T}
+use lib.ListN.{length, getD}
+use mathlib.Core.List.{List}
+use Rattle.schedule.specs.Jobs.{Jobs}
+use Rattle.schedule.proofs.Rows.{sum, sum-less}
+use Rattle.planner.specs.declared.tighten.Moved.{Moved}
+use Rattle.planner.specs.declared.tighten.Moved.the-variants.{Jobs as Those}
+use Rattle.planner.specs.Told.{row-in}
+use Rattle.planner.specs.Inner.Tables.{Known}
+use Rattle.planner.specs.Inner.Lower.{Sunk, Moves, Swept}
+use Rattle.planner.proofs.TightenSink.{sunk-same, sunk-join, none-join}
+use Rattle.planner.proofs.tighten.settled.Statement.{statement}
+use Rattle.planner.proofs.tighten.settled.Tie as tie
+
+abbrev Inv-loop : tie.InvT-loop
+Inv-loop size order followers early late next row₀ row = (length row ≡ 64) × ((i : ℕ) → i < size → getD row i 0 < 65536) × ((J : Jobs) → J .size ≡ size → Known J followers early late next → Sunk J (row-in early) row₀ row)
+
+abbrev μ-loop : tie.MeasureT-loop
+μ-loop size order followers early late next row₀ row = sum size (row-in row)
+
+-- what the pass moved
+moves : (c : tie.After-known-told Inv-loop μ-loop) (J : Jobs) → J .size ≡ c .before .before .before .before .before .before .args .size → Known J (c .before .before .before .before .before .before .args .followers .now) (c .before .before .before .before .before .before .args .early .now) (c .before .before .before .before .before .before .args .late .now) (c .before .before .before .before .before .before .args .next .now) →
+    Moves J (row-in (c .before .before .before .before .before .before .args .early .now)) (c .before .before .before .before .before .loop .row) (c .before .before .before .pass .last .1 .1 .1 .1 .1 .1 .0) (Swept J (row-in (c .before .before .before .before .before .before .args .early .now)) (row-in (c .before .before .before .before .before .loop .row))) (Those (c .before .moved .given .0 .0))
+moves c J e k =
+    subst (λ (r : Moved). Moves J (row-in (c .before .before .before .before .before .before .args .early .now)) (c .before .before .before .before .before .loop .row) (c .before .before .before .pass .last .1 .1 .1 .1 .1 .1 .0) (Swept J (row-in (c .before .before .before .before .before .before .args .early .now)) (row-in (c .before .before .before .before .before .loop .row))) r) (c .before .moved .given .1)
+    (c .before .before .before .pass .ensures .1 J e k)
+
+loop-holds : tie.Need-loop-holds Inv-loop μ-loop
+loop-holds c = (c .pre .1, c .pre .4, (λ J e k. sunk-same J (row-in (c .args .early .now)) (c .args .row .now)))
+
+pass-requires : tie.Need-pass-requires Inv-loop μ-loop
+pass-requires c κs =
+    let p = c .before in
+    (p .before .pre .0, p .loop .inv .0, p .before .pre .2, p .before .pre .3, p .loop .inv .1)
+
+enum-known-moved : tie.Need-enum-known-moved Inv-loop μ-loop
+enum-known-moved c = search needs
+
+returns : tie.Need-returns Inv-loop μ-loop
+returns c =
+    let p = c .before .before .before .before .before .before in
+    let a = p .before .args in
+    let low = c .before .before .before .before .pass .last .1 .1 .1 .1 .1 .1 .0 in (
+      c .before .before .before .before .pass .ensures .0,
+      (λ J e k.
+          let m = moves (c .before) J e k in
+          let still = m .1 (c .if1 .taken) in
+          record {
+            sunk = λ b. sunk-join J (row-in (a .early .now)) (a .row .now) (p .loop .row) low (p .loop .inv .2 J e k) (m .0);
+            swept = λ b. subst (λ (x : List ℕ). Swept J (row-in (a .early .now)) (row-in x)) (sym (still .0)) (still .1);
+            none = λ b. absurd (subst T b tt);
+          }),
+    )
+
+loop-less : tie.Need-loop-less Inv-loop μ-loop
+loop-less c =
+    let p = c .before .before .before .before .before .before in
+    let j = p .before .pre .5 in
+    let m = moves (c .before) (j .0) (j .1) (j .2) in
+    let f = m .2 (c .if1 .left) in
+    sum-less (p .before .args .size) (row-in (c .before .before .before .before .pass .last .1 .1 .1 .1 .1 .1 .0)) (row-in (p .loop .row)) (f .0) (omega (arith, f .1, j .1)) (λ i l. m .0 .bound .beneath i (omega (arith, j .1))) (f .2)
+
+loop-again : tie.Need-loop-again Inv-loop μ-loop
+loop-again c =
+    let p = c .before .before .before .before .before .before in
+    let a = p .before .args in
+    let j = p .before .pre .5 in (
+      c .before .before .before .before .pass .ensures .0,
+      (λ i l. omega (arith, p .loop .inv .1 i l, moves (c .before) (j .0) (j .1) (j .2) .0 .bound .beneath i (omega (arith, j .1)))),
+      (λ J e k. sunk-join J (row-in (a .early .now)) (a .row .now) (p .loop .row) (c .before .before .before .before .pass .last .1 .1 .1 .1 .1 .1 .0) (p .loop .inv .2 J e k) (moves (c .before) J e k .0)),
+    )
+
+enum-told : tie.Need-enum-told Inv-loop μ-loop
+enum-told c = search needs
+
+returns-2 : tie.Need-returns-2 Inv-loop μ-loop
+returns-2 c =
+    let p = c .before .before .before .before in
+    let a = p .before .args in
+    let low = c .before .before .pass .last .1 .1 .1 .1 .1 .1 .0 in (
+      c .before .before .pass .ensures .0,
+      (λ J e k. record {
+        sunk = λ b. absurd (subst T (sym b) tt);
+        swept = λ b. absurd (subst T (sym b) tt);
+        none = λ b. none-join J (row-in (a .early .now)) (a .row .now) (p .loop .row) (p .loop .row) (p .loop .inv .2 J e k)
+            (subst (λ (r : Moved). Moves J (row-in (a .early .now)) (p .loop .row) low (Swept J (row-in (a .early .now)) (row-in (p .loop .row))) r) (c .enum-told .given .1) (c .before .before .pass .ensures .1 J e k));
+      }),
+    )
+
+pub settled-spec : {M : Type 1} → statement M
+settled-spec =
+    tie.close
+    (tie.spec
+    Inv-loop
+    μ-loop
+    loop-holds
+    pass-requires
+    enum-known-moved
+    returns
+    loop-less
+    loop-again
+    enum-told
+    returns-2)

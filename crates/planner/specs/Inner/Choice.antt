@@ -1,0 +1,23 @@
+-- Which job can begin at a slot, by sets: `left` the jobs not placed, `undone` those not in earlier slots.
+-- Assumes nothing.
+use mathlib.Core.Bool.{Bool, _&&_}
+use mathlib.Core.List.{List}
+use Prim.Native.Nat.{ℕ, _≤_, _<_}
+use lib.Bits.{bitAnd}
+use lib.Dec.{eqb, leb}
+use lib.ListN.{getD}
+use Rattle.planner.specs.Sets.{has}
+
+-- a job with its start and the set of its predecessors
+abbrev pub begins : ℕ → ℕ → ℕ → ℕ → ℕ → ℕ → Bool
+begins job start before left undone t = leb start t && has left job && eqb (bitAnd before undone) 0
+
+-- the same by rows
+abbrev pub ready-by : List ℕ → List ℕ → ℕ → ℕ → ℕ → ℕ → Bool
+ready-by start before left undone t i = begins i (getD start i 0) (getD before i 0) left undone t
+
+-- a slot after t, with no start between the two
+pub record Wakes (size : ℕ) (start : ℕ → ℕ) (t next : ℕ) : Type 0 where
+  pub later : t < next
+  pub within : next ≤ 4096
+  pub none : (i : ℕ) → i < size → t < start i → next ≤ start i
