@@ -6,9 +6,12 @@ use mathlib.Core.Path.{_≡_, refl, sym, subst, _∙_}
 use Prim.Native.Nat.{ℕ, zero, suc, _/_, _≤_, _<_}
 use native.Mathlib.Nat.{le-of-eq}
 use native.Mathlib.Omega.{arith}
+use lib.Dec.{T}
 use lib.ListN.{length, getD, take, replicate}
 use lib.Seq.{take-suc, take-all, length-take-le, getD-take}
 use Rattle.schedule.specs.Listed.{Listed, ordered, Chain, Formed, Reads, written, with-job, with-order}
+use Rattle.schedule.specs.Jobs.{Jobs}
+use Rattle.schedule.specs.Plan.{HasPlan}
 use Rattle.schedule.specs.Grow.{Extends}
 use Rattle.schedule.proofs.Tests.{le-by, lt-by}
 use Rattle.schedule.proofs.Chains.{jobs, jobs-reads}
@@ -23,24 +26,31 @@ use Rattle.planner.proofs.Pairs.{no-chain, pairs-more, pairs-held, held
 use Rattle.planner.proofs.Whole.{Sound}
 use Rattle.planner.proofs.Accepts.{Accepts, job-accepted, order-accepted}
 
--- a list whose jobs and chains are another's has a plan where that has one
-planned-back : (M L : Listed) → Formed M → length (M .starts) ≤ length (L .starts) → ((i : ℕ) → i < length (M .starts) → getD (M .starts) i 0 ≡ getD (L .starts) i 0) →
-    ((i : ℕ) → i < length (M .starts) → written M i ≡ written L i) → ((a b : ℕ) → Chain (M .orders) a b → Chain (L .orders) a b) → Planned L → Planned M
-planned-back M L f longer starts dues chains p =
-    (jobs M, reads, (p .2 .0, plan-back (jobs M) (p .0) extends 2 (p .2 .0) (p .2 .1), record { ends = λ i l. omega (arith, p .2 .2 .ends i (inside i l), dues i (omega (arith, reads .size))) }))
+-- a list whose jobs and chains are among jobs that have a plan has one
+pub among-planned : (M : Listed) (K : Jobs) (due : ℕ → ℕ) → Formed M → length (M .starts) ≤ K .size → ((i : ℕ) → i < length (M .starts) → getD (M .starts) i 0 ≡ K .start i) →
+    ((i : ℕ) → i < length (M .starts) → written M i ≡ due i) → ((a b : ℕ) → a < K .size → b < K .size → Chain (M .orders) a b → T (K .before a b)) → HasPlan 2 K due → Planned M
+among-planned M K due f longer starts dues chains p =
+    (jobs M, reads, (p .0, plan-back (jobs M) K extends 2 (p .0) (p .1), record { ends = λ i l. omega (arith, p .2 .ends i (inside i l), dues i (omega (arith, reads .size))) }))
   where
     reads : Reads M (jobs M)
     reads = jobs-reads M f
 
-    inside : (i : ℕ) → i < jobs M .size → i < p .0 .size
-    inside i l = omega (arith, reads .size, p .1 .size)
+    inside : (i : ℕ) → i < jobs M .size → i < K .size
+    inside i l = omega (arith, reads .size)
 
-    extends : Extends (jobs M) (p .0)
+    extends : Extends (jobs M) K
     extends = record {
-      longer = omega (arith, reads .size, p .1 .size);
-      starts = λ i l. le-of-eq (reads .start i l ∙ starts i (omega (arith, reads .size)) ∙ sym (p .1 .start i (inside i l)));
-      chains = λ a b la lb t. p .1 .before a b (inside a la) (inside b lb) .1 (chains a b (reads .before a b la lb .0 t));
+      longer = omega (arith, reads .size);
+      starts = λ i l. le-of-eq (reads .start i l ∙ starts i (omega (arith, reads .size)));
+      chains = λ a b la lb t. chains a b (inside a la) (inside b lb) (reads .before a b la lb .0 t);
     }
+
+-- and so has a list whose jobs and chains are another's that has a plan
+planned-back : (M L : Listed) → Formed M → length (M .starts) ≤ length (L .starts) → ((i : ℕ) → i < length (M .starts) → getD (M .starts) i 0 ≡ getD (L .starts) i 0) →
+    ((i : ℕ) → i < length (M .starts) → written M i ≡ written L i) → ((a b : ℕ) → Chain (M .orders) a b → Chain (L .orders) a b) → Planned L → Planned M
+planned-back M L f longer starts dues chains p =
+    among-planned M (p .0) (written L) f (omega (arith, p .1 .size)) (λ i l. starts i l ∙ sym (p .1 .start i (omega (arith, p .1 .size)))) dues
+    (λ a b la lb c. p .1 .before a b la lb .1 (chains a b c)) (p .2)
 
 -- a run goes on by a request that is accepted
 run-on : (L : Listed) (k : Book) (q : Request) → Run L k → (a : Accepts k q) → Run (grow L q) (a .next)

@@ -23,7 +23,7 @@ row-same : (n : ℕ) (x y : List ℕ) → length x ≡ 64 → length y ≡ 64 �
 row-same n x y lx ly h zx zy = ext-getD 0 x y (lx ∙ sym ly) (λ i l. ⊎-elim (λ le. zx i le ∙ sym (zy i le)) (λ lt. h i lt) (le-or-lt n i))
 
 -- a number is below its power of two
-below-pow : (n : ℕ) → n < 2 ^ n
+pub below-pow : (n : ℕ) → n < 2 ^ n
 below-pow zero = omega arith
 below-pow (suc n) = rw pow-suc (omega (arith, below-pow n))
 

@@ -1,0 +1,10 @@
+pub mod Stored
+pub mod Asked
+pub mod Reading
+pub mod Spelled
+pub mod Length
+pub mod Writing
+pub mod Whole
+pub mod Part
+pub mod Retold
+pub mod RoundTrip

@@ -1,0 +1,50 @@
+-- `jobfile::record::put_record` meets its contract: three words stored one after the other.
+-- Assumes nothing.
+use mathlib.Core.List.{List, _++_}
+use mathlib.Core.Path.{ap, _∙_}
+use Prim.Native.Nat.{ℕ, _+_}
+use lib.Seq.{sets}
+use Rattle.jobfile.specs.Record.{word}
+use Rattle.jobfile.proofs.Stored.{sets-append}
+use borrow.Author.Needs.{needs}
+use Rattle.jobfile.proofs.record.put_record.Statement.{statement}
+use Rattle.jobfile.proofs.record.put_record.Tie as tie
+
+put-word-requires : tie.Need-put-word-requires
+put-word-requires c κs = search needs
+
+add-put-word : tie.Need-add-put-word
+add-put-word c = search needs
+
+put-word-requires-2 : tie.Need-put-word-requires-2
+put-word-requires-2 c κs = search needs
+
+add-put-word-2 : tie.Need-add-put-word-2
+add-put-word-2 c = search needs
+
+put-word-requires-3 : tie.Need-put-word-requires-3
+put-word-requires-3 c κs = search needs
+
+same-length : tie.Need-same-length
+same-length c = search needs
+
+returns : tie.Need-returns
+returns c =
+    let a = c .before .before .before .before .before .before .before .before .before .before .before .before .before .args in
+    c .before .before .put-word3 .ensures
+    ∙ ap (λ (l : List ℕ). sets l (a .at + 4) (word (a .second))) (c .before .before .before .before .before .before .put-word2 .ensures)
+    ∙ ap (λ (l : List ℕ). sets (sets l (a .at + 2) (word (a .first))) (a .at + 4) (word (a .second))) (c .before .before .before .before .before .before .before .before .before .before .put-word .ensures)
+    ∙ ap (λ (l : List ℕ). sets l (a .at + 4) (word (a .second))) (sets-append (word (a .mark)) (word (a .first)) (a .out .now) (a .at))
+    ∙ sets-append (word (a .mark) ++ word (a .first)) (word (a .second)) (a .out .now) (a .at)
+
+pub put-record-spec : {M : Type 1} → statement M
+put-record-spec =
+    tie.close
+    (tie.spec
+    put-word-requires
+    add-put-word
+    put-word-requires-2
+    add-put-word-2
+    put-word-requires-3
+    same-length
+    returns)
