@@ -1,14 +1,22 @@
 // Job files: one record read into a book, and a book written out.
+use crate::lent;
 use jobfile::Event;
 use planner::Book;
-use crate::lent;
 ghost use mathlib.Core.Path.{_≡_};
 ghost use Rattle.planner.specs.Told.{Made};
 ghost use Rattle.firmware.specs.Lent.{held, event-number, event-value};
 ghost use Rattle.firmware.specs.Calls.{ReadsOne, WritesFile};
 
 #[no_mangle]
-pub extern "C" fn firmware_read(size: &mut usize, start: &mut [u16; 64], latest: &mut [u16; 64], before: &mut [u64; 64], file: &[u8], at: &mut usize, answer: &mut usize) -> u8
+pub extern "C" fn firmware_read(
+    size: &mut usize,
+    start: &mut [u16; 64],
+    latest: &mut [u16; 64],
+    before: &mut [u64; 64],
+    file: &[u8],
+    at: &mut usize,
+    answer: &mut usize,
+) -> u8
     requires { ⌜ Made (held (now size) (now start) (now latest) (now before)) ⌝ }
     ensures { λ r. ⌜ ReadsOne (held (now (size .entry)) (now (start .entry)) (now (latest .entry)) (now (before .entry))) (now (file .entry)) (now (at .entry)) (held (now (size .exit)) (now (start .exit)) (now (latest .exit)) (now (before .exit))) (now (at .exit)) r (now (answer .exit)) ⌝ }
 {
@@ -37,7 +45,14 @@ pub extern "C" fn firmware_read(size: &mut usize, start: &mut [u16; 64], latest:
 }
 
 #[no_mangle]
-pub extern "C" fn firmware_write(size: usize, start: &[u16; 64], latest: &[u16; 64], before: &[u64; 64], out: &mut [u8], answer: &mut usize) -> u8
+pub extern "C" fn firmware_write(
+    size: usize,
+    start: &[u16; 64],
+    latest: &[u16; 64],
+    before: &[u64; 64],
+    out: &mut [u8],
+    answer: &mut usize,
+) -> u8
     requires { ⌜ Made (held size (now start) (now latest) (now before)) ⌝ }
     ensures { λ r. ⌜ WritesFile (held size (now (start .entry)) (now (latest .entry)) (now (before .entry))) (now (out .entry)) (now (out .exit)) r (now (answer .exit)) ⌝ }
 {

@@ -1,7 +1,7 @@
 // The planner for firmware in C: numbers and lent memory alone. A book lies in memory as its four parts.
 mod file;
-mod list;
 mod lent;
+mod list;
 mod plan;
 mod requests;
 

@@ -1,14 +1,20 @@
 // The whole list at once, and the class of a number of refusal.
-use planner::Class;
 use crate::lent::number;
 use crate::lent::value;
+use planner::Class;
 ghost use mathlib.Core.Path.{_≡_};
 ghost use Rattle.planner.specs.Answer.{class-of};
 ghost use Rattle.firmware.specs.Lent.{class-number};
 ghost use Rattle.firmware.specs.Calls.{JudgesList};
 
 #[no_mangle]
-pub extern "C" fn firmware_judge(starts: &[u16], deadlines: &[u16], pairs: &[u16], latest: &mut [u16], answer: &mut usize) -> u8
+pub extern "C" fn firmware_judge(
+    starts: &[u16],
+    deadlines: &[u16],
+    pairs: &[u16],
+    latest: &mut [u16],
+    answer: &mut usize,
+) -> u8
     ensures { λ r. ⌜ JudgesList (now (starts .entry)) (now (deadlines .entry)) (now (pairs .entry)) (now (latest .entry)) (now (latest .exit)) r (now (answer .exit)) ⌝ }
 {
     let told = planner::judge(starts, deadlines, pairs, latest);
