@@ -5,3 +5,4 @@ pub mod Walk
 pub mod Bytes
 pub mod Round
 pub mod Outcome
+pub mod Pages

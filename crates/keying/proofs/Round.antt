@@ -7,7 +7,7 @@ use native.Mathlib.Nat.{div-add-mod}
 use native.Mathlib.Omega.{arith}
 use lib.ListN.{length, getD}
 use lib.Seq.{getD-append-add}
-use Rattle.keying.specs.File.{record-bytes, file-bytes, record-at}
+use Rattle.keying.specs.File.{record-bytes, each, file-bytes, record-at}
 use Rattle.keying.specs.declared.entry.Record.{Record}
 
 abbrev pub no-record : Record
@@ -37,7 +37,7 @@ later-back r rest n =
 
 -- whatever follows the file
 pub reads-back : (rs : List Record) (rest : List ℕ) (i : ℕ) → i < length rs → record-at (file-bytes rs ++ rest) (6 * i) ≡ getD rs i no-record
-unfolding file-bytes
+unfolding each
 reads-back [] rest i h = absurd (omega arith)
 reads-back (r ∷ rs) rest zero h = rw (append-assoc (record-bytes r) (file-bytes rs) rest) (first-back r (file-bytes rs ++ rest))
 reads-back (r ∷ rs) rest (suc i) h =

@@ -8,9 +8,13 @@ use Rattle.keying.specs.declared.entry.Record.{Record}
 unfoldable pub record-bytes : Record → List ℕ
 record-bytes r = r .mark / 256 ∷ r .mark % 256 ∷ r .first / 256 ∷ r .first % 256 ∷ r .second / 256 ∷ r .second % 256 ∷ []
 
-unfoldable pub file-bytes : List Record → List ℕ
-file-bytes [] = []
-file-bytes (r ∷ rest) = record-bytes r ++ file-bytes rest
+-- the bytes of each record, one after the other
+unfoldable pub each : (Record → List ℕ) → List Record → List ℕ
+each bytes [] = []
+each bytes (r ∷ rest) = bytes r ++ each bytes rest
+
+abbrev pub file-bytes : List Record → List ℕ
+file-bytes rs = each record-bytes rs
 
 -- the 16-bit number at an offset, high byte first
 abbrev pub number-at : List ℕ → ℕ → ℕ

@@ -2,4 +2,5 @@
 pub mod Text
 pub mod File
 pub mod Keys
+pub mod Lines
 pub mod Inner

@@ -133,7 +133,7 @@ pub fn judged(entry: Entry) -> Said
 }
 
 // `JB`, `OR` or `TG`.
-fn is_known(mark: u16) -> bool
+pub fn is_known(mark: u16) -> bool
     ensures { λ r. ⌜ r ≡ known mark ⌝ }
 {
     if mark == 0x4A42 {

@@ -3,9 +3,11 @@ use crate::entry::Record;
 use crate::entry::Said;
 use crate::entry::Slip;
 use crate::line;
+use crate::number::high;
+use crate::number::low;
 use crate::reader;
 ghost use mathlib.Core.Path.{_≡_};
-ghost use Prim.Native.Nat.{_+_, _*_, _/_, _%_, _≤_};
+ghost use Prim.Native.Nat.{_+_, _≤_};
 ghost use lib.ListN.{length, getD};
 ghost use lib.Seq.{sets};
 ghost use Rattle.keying.specs.Text.{reading};
@@ -115,16 +117,4 @@ fn store(out: &mut [u8], at: usize, told: Record)
     out[at + 3] = low(told.first);
     out[at + 4] = high(told.second);
     out[at + 5] = low(told.second);
-}
-
-fn high(number: u16) -> u8
-    ensures { λ r. ⌜ r ≡ number / 256 ⌝ }
-{
-    (number / 256) as u8
-}
-
-fn low(number: u16) -> u8
-    ensures { λ r. ⌜ r ≡ number % 256 ⌝ }
-{
-    (number % 256) as u8
 }

@@ -8,14 +8,16 @@ use native.Mathlib.Nat.{le-antisymm}
 use native.Mathlib.Omega.{arith}
 use lib.ListN.{length, getD}
 use lib.Seq.{ext-getD}
-use Rattle.schedule.specs.Listed.{Listed, Chain, link, join, written}
+use Rattle.schedule.specs.Listed.{Listed, Chain, link, join, Looped, Formed, written}
 use Rattle.schedule.proofs.Tests.{le-or-lt, le-by}
 use Rattle.planner.specs.declared.book.Book.{Book}
 use Rattle.planner.specs.declared.refusal.Answer.the-variants.{Accepted, Refused}
 use Rattle.planner.specs.Answer.{number-of}
 use Rattle.planner.specs.Told.{Told, jobs-of, latest-of, row-in}
 use Rattle.planner.specs.Unless.{Unless, refused, passed, UnlessAt, first, clear, One}
-use Rattle.planner.specs.Judged.{first-of, second-of, list-of, Misshapen, number-for, Judgement, turned-down, Fitted, Judged-as, AsRequests}
+use Rattle.planner.specs.Judged.{first-of, second-of, pairs-of, list-of, Misshapen, Unsound, number-for, Looping, Judgement, turned-down, Fitted, Judged-as, AsRequests}
+use Rattle.planner.specs.Outcome.{Planned}
+use Rattle.planner.specs.Inner.List.{Held}
 use Rattle.schedule.proofs.Same.{holds-one}
 use Rattle.schedule.proofs.Onward.{holds-planned}
 use Rattle.planner.proofs.Once.{unless-one, unless-at-one}
@@ -69,7 +71,7 @@ accepted-sound starts deadlines pairs row r j a =
     even : ((length starts ≡ length deadlines → ⊥) → ⊥) → length starts ≡ length deadlines
     even f = le-antisymm (le-by _ _ (λ l. f (λ e. omega arith))) (le-by _ _ (λ l. f (λ e. omega arith)))
 
--- ---- and a list that a book holds passes them
+-- ---- and where no check finds a fault, it passes them
 pub unless-free : {A : Type 0} (fault : Type 0) (refusal : A) (next : A → Type 0) (r : A) → (fault → ⊥) → Unless fault refusal next r → next r
 unless-free fault refusal next r f (refused x e) = absurd (f x)
 unless-free fault refusal next r f (passed x y) = y
@@ -78,27 +80,43 @@ unless-at-free : {A : Type 0} (n : ℕ) (fault : ℕ → Type 0) (refusal : ℕ 
 unless-at-free n fault refusal next r f (first i l b x e) = absurd (f i l x)
 unless-at-free n fault refusal next r f (clear x y) = y
 
+-- so does any list that is well formed, has no loop, and whose jobs are few and in their limits
+pub sound-by : (starts deadlines pairs : List ℕ) → Formed (list-of starts deadlines pairs) → (Looped (list-of starts deadlines pairs) → ⊥) → length starts ≤ 64 →
+    ((i : ℕ) → i < length starts → Unsound (getD starts i 0) (getD deadlines i 0) → ⊥) → Sound starts deadlines pairs
+sound-by starts deadlines pairs formed loopless few jobs = record {
+  even = sym (formed .even);
+  few = few;
+  jobs = jobs;
+  held = record { below = λ p l u. let h = formed .held (first-of pairs p) (second-of pairs p) (pairs-in pairs n p l) in ⊎-elim (λ g. omega arith) (λ g. omega arith) u };
+  free = λ p l u. loopless (
+    first-of pairs p,
+    ⊎-elim
+        (λ e. subst (λ x. Chain (pairs-of pairs n) (first-of pairs p) x) (sym e) (link (pairs-in pairs n p l)))
+        (λ c. join (link (pairs-in pairs n p l)) (pairs-more pairs p n (omega arith) (second-of pairs p) (first-of pairs p) c)) u,
+  );
+}
+  where
+    n : ℕ
+    n = length pairs / 2
+
+-- what is left of the checks: 6 and 4 for jobs that pass, and 4 for a sound list
+module _ (starts deadlines pairs row : List ℕ) (r : Judgement) (m : Misshapen starts deadlines pairs row → ⊥) (j : Judged-as starts deadlines pairs row r) where
+  pub loops-last : length starts ≤ 64 → ((i : ℕ) → i < length starts → Unsound (getD starts i 0) (getD deadlines i 0) → ⊥) → Held (length starts) pairs →
+      UnlessAt (length pairs / 2) (Looping pairs) (turned-down row 6)
+      (Unless (Planned (list-of starts deadlines pairs) → ⊥) (turned-down row 4 0) (Fitted (list-of starts deadlines pairs) row)) r
+  loops-last few jobs held = unless-at-free _ _ _ _ r (held .below) (unless-at-free _ _ _ _ r jobs (unless-free _ _ _ r (λ l. omega arith) (unless-free _ _ _ r m j)))
+
+  pub sound-last : Sound starts deadlines pairs → Unless (Planned (list-of starts deadlines pairs) → ⊥) (turned-down row 4 0) (Fitted (list-of starts deadlines pairs) row) r
+  sound-last s = unless-at-free _ _ _ _ r (s .free) (loops-last (s .few) (s .jobs) (s .held))
+
 module _ (starts deadlines pairs : List ℕ) (k : Book) (t : Told k (list-of starts deadlines pairs)) where
   abbrev L : Listed
   L = list-of starts deadlines pairs
 
-  abbrev n : ℕ
-  n = length pairs / 2
-
   told-sound : Sound starts deadlines pairs
   unfolding written
-  told-sound = record {
-    even = sym (t .holds .formed .even);
-    few = omega (arith, size-is L k t, t .shaped .few);
-    jobs = λ i l u. ⊎-elim (λ v. ⊎-elim (λ g. omega (arith, t .limited .start i l)) (λ g. omega (arith, t .limited .deadline i l)) v) (λ g. window i l g) u;
-    held = record { below = λ p l u. let h = t .holds .formed .held (first-of pairs p) (second-of pairs p) (pairs-in pairs n p l) in ⊎-elim (λ g. omega arith) (λ g. omega arith) u };
-    free = λ p l u. t .holds .loopless (
-      first-of pairs p,
-      ⊎-elim
-          (λ e. subst (λ x. Chain (L .orders) (first-of pairs p) x) (sym e) (link (pairs-in pairs n p l)))
-          (λ c. join (link (pairs-in pairs n p l)) (pairs-more pairs p n (omega arith) (second-of pairs p) (first-of pairs p) c)) u,
-    );
-  }
+  told-sound = sound-by starts deadlines pairs (t .holds .formed) (t .holds .loopless) (omega (arith, size-is L k t, t .shaped .few))
+      (λ i l u. ⊎-elim (λ v. ⊎-elim (λ g. omega (arith, t .limited .start i l)) (λ g. omega (arith, t .limited .deadline i l)) v) (λ g. window i l g) u)
     where
       window : (i : ℕ) → i < length starts → getD deadlines i 0 ≤ getD starts i 0 → ⊥
       window i l g =
@@ -107,11 +125,7 @@ module _ (starts deadlines pairs : List ℕ) (k : Book) (t : Told k (list-of sta
 
   module _ (row : List ℕ) (r : Judgement) (j : Judged-as starts deadlines pairs row r) where
     told-fitted : (Misshapen starts deadlines pairs row → ⊥) → Fitted L row r
-    told-fitted m =
-        let s = told-sound in
-        unless-free _ _ _ r (λ no. no (holds-planned 2 (omega arith) (omega arith) L (jobs-of k) (latest-of k) (t .holds)))
-        (unless-at-free _ _ _ _ r (s .free) (unless-at-free _ _ _ _ r (s .held .below) (unless-at-free _ _ _ _ r (s .jobs)
-        (unless-free _ _ _ r (λ l. omega (arith, s .few)) (unless-free _ _ _ r m j)))))
+    told-fitted m = unless-free _ _ _ r (λ no. no (holds-planned 2 (omega arith) (omega arith) L (jobs-of k) (latest-of k) (t .holds))) (sound-last starts deadlines pairs row r m j told-sound)
 
     -- so it is not refused by 4: a list refused by its form is not, and any other is accepted
     told-not-4 : r .answer ≡ Refused 4 0 → ⊥

@@ -1,5 +1,6 @@
 // The choice of the next job for a slot.
 use crate::sets;
+use crate::times::wide;
 use schedule::JobIndex;
 use schedule::SlotTime;
 ghost use mathlib.Core.Path.{_≡_};
@@ -67,11 +68,4 @@ pub fn next_start(size: usize, start: &[u16; 64], t: SlotTime) -> SlotTime
         i += 1;
     }
     SlotTime(next)
-}
-
-// A time as a machine word.
-pub fn wide(time: u16) -> usize
-    ensures { λ r. ⌜ (r ≡ time) × (r < 65536) ⌝ }
-{
-    time as usize
 }

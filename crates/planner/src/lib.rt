@@ -8,6 +8,7 @@ mod planned;
 mod refusal;
 mod sets;
 mod tighten;
+mod times;
 
 pub use book::Applied;
 pub use book::Book;

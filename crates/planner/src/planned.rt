@@ -1,11 +1,11 @@
 // The plan, written into lent bytes; a span of it; the place of one job.
 use crate::book::Book;
-use crate::choice::wide;
 use crate::layout;
 use crate::refusal::Answer;
 use crate::refusal::Place;
 use crate::refusal::Placed;
 use crate::sets;
+use crate::times::wide;
 use schedule::CoreIndex;
 use schedule::JobIndex;
 use schedule::SlotTime;

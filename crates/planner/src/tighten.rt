@@ -5,11 +5,11 @@ mod rule;
 mod tables;
 
 use crate::sets;
+use crate::times::wide;
 use schedule::JobIndex;
-ghost use mathlib.Core.Bool.{_&&_};
 ghost use mathlib.Core.Path.{_≡_};
 ghost use Prim.Native.Nat.{ℕ, _<_, _≤_};
-ghost use lib.Dec.{T, ltb};
+ghost use lib.Dec.{T};
 ghost use lib.ListN.{length, getD};
 ghost use Rattle.schedule.specs.Jobs.{Jobs};
 ghost use Rattle.planner.specs.Sets.{has};
@@ -17,13 +17,6 @@ ghost use Rattle.planner.specs.Told.{row-in};
 ghost use Rattle.planner.specs.Inner.Tighten.{Tightenable, Tightens};
 ghost use Rattle.planner.specs.Inner.Tables.{Steps, Known};
 ghost use Rattle.planner.specs.Inner.Lower.{DueBy, DueBelow, AtD, Swept, Moves, Settles};
-
-// A time of a row.
-pub fn wide(time: u16) -> usize
-    ensures { λ r. ⌜ (r ≡ time) × (r < 65536) ⌝ }
-{
-    time as usize
-}
 
 // Which jobs moved; Shut where some job has no time left.
 enum Moved {

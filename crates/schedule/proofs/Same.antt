@@ -1,21 +1,26 @@
--- Two readings of one list have the same latest times and the same plans.
+-- Two readings of one list have the same latest times, the same plans, and the same plan made.
 -- Assumes nothing.
-use mathlib.Core.Path.{_≡_, refl, sym, _∙_}
-use Prim.Native.Nat.{ℕ, _<_}
+use mathlib.Core.Path.{_≡_, refl, sym, ap, _∙_}
+use Prim.Native.Nat.{ℕ, _+_, _≤_, _<_}
 use native.Mathlib.Omega.{arith}
 use Rattle.schedule.specs.Jobs.{Jobs}
-use Rattle.schedule.specs.Plan.{HasPlan}
-use Rattle.schedule.specs.Times.{Earliest, Latest}
+use Rattle.schedule.specs.Plan.{HasPlan, finish}
+use Rattle.schedule.specs.Times.{Earliest, Beneath, Latest}
+use Rattle.schedule.specs.Make.{slots, bytes}
 use Rattle.schedule.specs.Listed.{Listed, Reads, written}
-use Rattle.schedule.specs.Grow.{Renumbered}
 use Rattle.schedule.specs.Book.{Holds}
 use Rattle.schedule.proofs.Tests.{same-test}
 use Rattle.schedule.proofs.Early.{earliest-one}
 use Rattle.schedule.proofs.Exist.{latest-one}
+use Rattle.schedule.proofs.Rows.{greatest-least}
+use Rattle.schedule.proofs.Made.{made-in-time}
+use Rattle.schedule.proofs.Seats.{placed-settled}
+use Rattle.schedule.proofs.Chains.{reads-closed}
+use Rattle.schedule.proofs.Alike.{Alike, placed, waits, Same, slots-alike, bytes-alike, finish-same}
 use Rattle.schedule.proofs.Renumber.{earliest-along, latest-along, latest-agrees}
 
 -- they are the same jobs
-pub reads-one : (L : Listed) (J K : Jobs) → Reads L J → Reads L K → Renumbered J K (λ i. i) (λ i. i)
+pub reads-one : (L : Listed) (J K : Jobs) → Reads L J → Reads L K → Same J K
 reads-one L J K r s =
     let size : K .size ≡ J .size = s .size ∙ sym (r .size) in
     record {
@@ -37,7 +42,7 @@ latest-any m J early other due row e o = latest-agrees m J early other due due r
 -- the same latest times
 pub holds-one : (m : ℕ) (L : Listed) (J K : Jobs) (times other : ℕ → ℕ) → Holds m L J times → Holds m L K other → (i : ℕ) → i < J .size → times i ≡ other i
 holds-one m L J K times other h k =
-    let r : Renumbered K J (λ i. i) (λ i. i) = reads-one L K J (k .reads) (h .reads) in
+    let r : Same K J = reads-one L K J (k .reads) (h .reads) in
     let e : Earliest J (k .early) = earliest-along K J (λ i. i) (λ i. i) r (k .early) (k .early) (λ i l. refl) (k .earliest) in
     let a : Latest m J (k .early) (written L) other =
     latest-along m K J (λ i. i) (λ i. i) r (k .early) (k .early) (written L) (written L) other other (λ i l. refl) (λ i l. refl) (λ i l. refl) (k .latest) in
@@ -46,7 +51,7 @@ holds-one m L J K times other h k =
 -- the same plans
 pub plan-one : (m : ℕ) (L : Listed) (J K : Jobs) (due : ℕ → ℕ) → Reads L J → Reads L K → HasPlan m J due → HasPlan m K due
 plan-one m L J K due r s p =
-    let x : Renumbered J K (λ i. i) (λ i. i) = reads-one L J K r s in (
+    let x : Same J K = reads-one L J K r s in (
       p .0,
       record {
         room = λ t. rw (x .size) (p .1 .room t);
@@ -58,3 +63,34 @@ plan-one m L J K due r s p =
       },
       record { ends = λ i l. p .2 .ends i (omega (arith, x .size)) },
     )
+
+-- the same plan made: the first looks at `end` slots, enough for its times, and the second at no fewer
+module _ (L : Listed) (J K : Jobs) (times other : ℕ → ℕ) (h : Holds 2 L J times) (k : Holds 2 L K other) (far end far′ end′ : ℕ) (top : Beneath J times (λ i. end))
+    (fits : end ≤ far) (more : end ≤ end′) (fits′ : end′ ≤ far′) where
+  abbrev slot : ℕ → ℕ
+  slot = slots 2 J times far end
+
+  abbrev slot′ : ℕ → ℕ
+  slot′ = slots 2 K other far′ end′
+
+  same : Same J K
+  same = reads-one L J K (h .reads) (k .reads)
+
+  in-time : (i : ℕ) → i < J .size → slot i < end
+  in-time = made-in-time 2 J (h .early) times far end (omega arith) (omega arith) (reads-closed L J (h .reads)) (h .earliest) (h .latest .consistent) fits top
+
+  slot-one : (i : ℕ) → i < J .size → slot i ≡ slot′ i
+  slot-one i l = go (slots-alike J K same times other (holds-one 2 L J K times other h k) far far′ 2 end fits (omega arith) i l)
+    where
+      go : Alike far far′ (slot i) (slots 2 K other far′ end i) → slot i ≡ slot′ i
+      go (waits e e′) = absurd (omega (arith, in-time i l))
+      go (placed e u u′) = e ∙ sym (placed-settled 2 K other far′ i end (omega (arith, same .size)) u′ end′ (omega (arith, in-time i l)))
+
+  pub finish-one : finish J slot ≡ finish K slot′
+  finish-one = finish-same J K same slot slot′ slot-one
+
+  pub bytes-one : bytes J times far (finish J slot) ≡ bytes K other far′ (finish K slot′)
+  unfolding finish
+  bytes-one =
+      let l : finish J slot ≤ end = greatest-least (J .size) (λ i. slot i + 1) end (λ i l. omega (arith, in-time i l)) in
+      bytes-alike J K same times other (holds-one 2 L J K times other h k) far far′ (finish J slot) (omega arith) (omega arith) ∙ ap (bytes K other far′) finish-one

@@ -1,10 +1,10 @@
 // Earliest times, each job after those that precede it.
 use crate::sets;
-use crate::tighten::wide;
+use crate::times::wide;
 use schedule::JobIndex;
 ghost use mathlib.Core.Bool.{true, false};
 ghost use mathlib.Core.Path.{_≡_};
-ghost use Prim.Native.Nat.{ℕ, _<_, _≤_};
+ghost use Prim.Native.Nat.{ℕ, _<_};
 ghost use lib.Dec.{T};
 ghost use lib.ListN.{length, getD};
 ghost use Rattle.planner.specs.Sets.{has};

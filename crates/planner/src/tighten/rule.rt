@@ -1,7 +1,6 @@
 // The rule for one job and one d.
 use crate::sets;
 use schedule::JobIndex;
-ghost use mathlib.Core.Path.{_≡_};
 ghost use Prim.Native.Nat.{ℕ, _<_, _≤_};
 ghost use lib.ListN.{getD};
 ghost use Rattle.schedule.specs.Jobs.{Jobs};

@@ -8,7 +8,7 @@ use mathlib.Core.Logic.{⊎-elim}
 use mathlib.Core.Path.{_≡_, refl, sym, _∙_}
 use lib.ListN.{length, getD, drop}
 use Rattle.keying.specs.declared.entry.Record.{Record}
-use Rattle.keying.specs.File.{file-bytes}
+use Rattle.keying.specs.File.{each, file-bytes}
 use Rattle.keying.specs.Keys.{left}
 use Rattle.keying.specs.Inner.Machine.{reader-says, reader-after}
 use Rattle.keying.proofs.Walk.{Reached, reached-start, on-sound, at-end, fits-all, kept}
@@ -21,7 +21,7 @@ use denote.Enum.Declared.{tagOf}
 use Rattle.keying.specs.File.{record-bytes}
 use Rattle.keying.specs.declared.entry.Said.{Said}
 use Rattle.keying.specs.declared.entry.Said.the-variants.{Nothing, Wrong}
-use Rattle.keying.proofs.Bytes.{store-more}
+use Rattle.keying.proofs.Bytes.{six, store-more}
 use Rattle.keying.proofs.entry.Said.{the-type}
 use Rattle.keying.proofs.keyed.write.Statement.{statement}
 use Rattle.keying.proofs.keyed.write.Tie as tie
@@ -52,7 +52,7 @@ room c =
     omega (arith, simp length-append at few, a .pre .fits, l .loop .inv .4)
 
 loop-holds : tie.Need-loop-holds Inv-loop μ-loop
-unfolding file-bytes
+unfolding each
 loop-holds c = (omega arith, refl, [], rw (c .fresh .ensures) (reached-start (c .before .before .before .args .text .now)), refl, refl)
 
 byte-at-requires : tie.Need-byte-at-requires Inv-loop μ-loop
@@ -101,7 +101,7 @@ loop-again c = let s = c .before .before in
       l .loop .inv .2 ++ (t ∷ []),
       rw e (on-sound text (l .loop .reader) (l .loop .i) (l .loop .inv .2) (l .loop .inv .3) (omega arith) (a .pre .all) (a .pre .sound) (Told t) (said s ∙ w .1 .given .1)),
       rw (w .8) (simp length-append (omega (arith, l .loop .inv .4))),
-      rw (wrote, l .loop .inv .5, l .loop .inv .4) (store-more (l .loop .inv .2) t (a .args .out .now) (omega (arith, fits, l .loop .inv .4))),
+      rw (wrote, l .loop .inv .5, l .loop .inv .4) (store-more record-bytes 6 six (l .loop .inv .2) t (a .args .out .now) (omega (arith, fits, l .loop .inv .4))),
     ))
     (λ w.
     let quiet = nothing-more (l .loop .inv .2) (s .says .result) (w .0 .keys2) in (
