@@ -91,7 +91,7 @@ module _ (k : Book) (file old : List ℕ) where
         }
 
 -- ---- one outcome
-pass-one : (file : List ℕ) (k : Book) (at : ℕ) (ns ms : List ℕ) (r s : Step) → Made k → Pass file k at ns r → Pass file k at ms s → (ns ≡ ms) × (r ≡ s)
+pub pass-one : (file : List ℕ) (k : Book) (at : ℕ) (ns ms : List ℕ) (r s : Step) → Made k → Pass file k at ns r → Pass file k at ms s → (ns ≡ ms) × (r ≡ s)
 pass-one file k at ns ms r s m (halts x f) (halts y g) = (refl, reads-only k file at m r s x y)
 pass-one file k at ns ms r s m (halts x f) (goes t a y e p) = absurd (f a (ap (λ (z : Step). z .event) (reads-only k file at m r t x y) ∙ e))
 pass-one file k at ns ms r s m (goes t a x e p) (halts y g) = absurd (g a (ap (λ (z : Step). z .event) (reads-only k file at m s t y x) ∙ e))

@@ -76,6 +76,10 @@ pub unless-free : {A : Type 0} (fault : Type 0) (refusal : A) (next : A → Type
 unless-free fault refusal next r f (refused x e) = absurd (f x)
 unless-free fault refusal next r f (passed x y) = y
 
+pub unless-caught : {A : Type 0} (fault : Type 0) (refusal : A) (next : A → Type 0) (r : A) → fault → Unless fault refusal next r → r ≡ refusal
+unless-caught fault refusal next r f (refused x e) = e
+unless-caught fault refusal next r f (passed x y) = absurd (x f)
+
 unless-at-free : {A : Type 0} (n : ℕ) (fault : ℕ → Type 0) (refusal : ℕ → A) (next : A → Type 0) (r : A) → ((i : ℕ) → i < n → fault i → ⊥) → UnlessAt n fault refusal next r → next r
 unless-at-free n fault refusal next r f (first i l b x e) = absurd (f i l x)
 unless-at-free n fault refusal next r f (clear x y) = y

@@ -34,7 +34,7 @@ use Rattle.planner.specs.Planned.{finish-of, bytes-of, Plans}
 use Rattle.planner.specs.Inner.List.{Held}
 use Rattle.planner.proofs.Pairs.{pairs-loopless}
 use Rattle.planner.proofs.Whole.{Sound}
-use Rattle.planner.proofs.Judged.{unless-free, sound-by, loops-last, sound-last}
+use Rattle.planner.proofs.Judged.{unless-free, unless-caught, sound-by, loops-last, sound-last}
 
 -- ---- what a row of the table says of the calls
 -- judge accepts the list, and a row long enough receives these latest times
@@ -100,23 +100,30 @@ accepts : {starts deadlines pairs times : List ℕ} → T (tame starts deadlines
     Accepts starts deadlines pairs times
 accepts {starts} {deadlines} {pairs} {times} t e a = record {
   judged = λ old new r room j.
-      let f : Fitted (list-of starts deadlines pairs) old (record { answer = r; row = new }) =
-      unless-free _ _ _ _ (λ no. no (holds-planned 2 (omega arith) (omega arith) (list-of starts deadlines pairs) (a .jobs) (entry times) (a .holds)))
+      let f : Fitted L old (record { answer = r; row = new }) =
+      unless-free _ _ _ _ (λ no. no (holds-planned 2 (omega arith) (omega arith) L (a .jobs) (entry times) (a .holds)))
       (last starts deadlines pairs t (a .holds .formed) (a .holds .loopless) old new r room j) in
       let front : (i : ℕ) → i < length times → getD new i 0 ≡ getD times i 0 =
-      λ i l. holds-one 2 (list-of starts deadlines pairs) (f .jobs) (a .jobs) (row-in new) (entry times) (f .holds) (a .holds) i (omega (arith, f .holds .reads .size)) in
+      λ i l. holds-one 2 L (f .jobs) (a .jobs) (row-in new) (entry times) (f .holds) (a .holds) i (omega (arith, f .holds .reads .size)) in
       (f .answer, subst (λ n. new ≡ times ++ drop n old) e (received times old new (omega arith) (f .same-length) front (λ i l. f .rest i (omega arith))));
 }
+  where
+    L : Listed
+    L = list-of starts deadlines pairs
+
+-- what a refusal leaves
+left : (old new : List ℕ) (r : Answer) (number place : ℕ) → _≡_ {A = Judgement} (record { answer = r; row = new }) (turned-down old number place) → (r ≡ Refused number place) × (new ≡ old)
+left old new r number place e = (ap (λ (y : Judgement). y .answer) e, ap (λ (y : Judgement). y .row) e)
 
 refuses : {starts deadlines pairs : List ℕ} → T (tame starts deadlines pairs) → certify.Refused (list-of starts deadlines pairs) → Refuses starts deadlines pairs 4 0
-refuses {starts} {deadlines} {pairs} t x = record { judged = λ old new r room j. go old new r (last starts deadlines pairs t (x .formed) (x .loopless) old new r room j) }
+refuses {starts} {deadlines} {pairs} t x = record {
+  judged = λ old new r room j. left old new r 4 0
+      (unless-caught _ _ _ _ (λ p. x .none (plan-one 2 L (p .0) (x .jobs) (written L) (p .1) (x .reads) (p .2)))
+      (last starts deadlines pairs t (x .formed) (x .loopless) old new r room j));
+}
   where
-    go : (old new : List ℕ) (r : Answer) →
-        Unless (Planned (list-of starts deadlines pairs) → ⊥) (turned-down old 4 0) (Fitted (list-of starts deadlines pairs) old) (record { answer = r; row = new }) →
-        (r ≡ Refused 4 0) × (new ≡ old)
-    go old new r (refused f e) = (ap (λ (y : Judgement). y .answer) e, ap (λ (y : Judgement). y .row) e)
-    go old new r (passed f y) =
-        absurd (f (λ p. x .none (plan-one 2 (list-of starts deadlines pairs) (p .0) (x .jobs) (written (list-of starts deadlines pairs)) (p .1) (x .reads) (p .2))))
+    L : Listed
+    L = list-of starts deadlines pairs
 
 -- the book's own plan is the table's: nine slots are enough for its times, as many as the table looks at
 module _ (L : Listed) (times plan : List ℕ) (n : ℕ) (low : T (all (length (L .starts)) (λ i. leb (entry times i) 9))) (size : length plan ≡ 2 * n) (a : theory.Planned L times plan)
@@ -169,7 +176,7 @@ looped = record {
         UnlessAt 2 (Looping pairs) (turned-down old 6) (Unless (Planned (list-of starts deadlines pairs) → ⊥) (turned-down old 4 0) (Fitted (list-of starts deadlines pairs) old))
         (record { answer = r; row = new }) → (r ≡ Refused 6 1) × (new ≡ old)
     go old new r (first zero l b x e) = absurd (alone .free 0 (omega arith) x)
-    go old new r (first (suc zero) l b x e) = (ap (λ (y : Judgement). y .answer) e, ap (λ (y : Judgement). y .row) e)
+    go old new r (first (suc zero) l b x e) = left old new r 6 1 e
     go old new r (first (suc (suc i)) l b x e) = absurd (omega arith)
     go old new r (clear f y) = absurd (pairs-loopless pairs 2 f (table .loop .0) (table .loop .1))
 

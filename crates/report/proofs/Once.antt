@@ -1,0 +1,31 @@
+-- A file has one listing.
+-- Assumes nothing.
+use mathlib.Core.List.{List, _++_}
+use mathlib.Core.Path.{_≡_, sym, ap, ap₂, subst, _∙_}
+use Prim.Native.Nat.{ℕ}
+use lib.ListN.{length, drop}
+use Rattle.planner.specs.declared.book.Book.{Book}
+use Rattle.planner.specs.Told.{nothing-listed}
+use Rattle.planner.specs.Unless.{One}
+use Rattle.planner.proofs.Same.{told-one}
+use Rattle.planner.proofs.Once.{unless-one}
+use Rattle.jobfile.specs.declared.reader.Step.{Step}
+use Rattle.jobfile.specs.File.{Pass}
+use Rattle.jobfile.proofs.Whole.{pass-one}
+use Rattle.report.specs.Listing.{refused-lines, stop-line, book-lines, Tells, Listing, Lists}
+
+tells-one : (file : List ℕ) → One (Tells file)
+tells-one file a b x y =
+    let same : y .opened ≡ x .opened = told-one _ _ _ (y .empty) (x .empty) in
+    let p =
+    pass-one file (x .opened) 0 (x .numbers) (y .numbers) (x .last) (y .last) (nothing-listed, x .empty) (x .pass)
+    (subst (λ (k : Book). Pass file k 0 (y .numbers) (y .last)) same (y .pass)) in
+    x .told ∙ ap₂ (λ (n : List ℕ) (r : Step). refused-lines n ++ stop-line (r .event) ++ book-lines (r .book)) (p .0) (p .1) ∙ sym (y .told)
+
+pub listing-one : (file : List ℕ) → One (Listing file)
+listing-one file = unless-one _ _ _ (tells-one file)
+
+pub lists-only : (file old new other : List ℕ) (r s : ℕ) → Lists file old new r → Lists file old other s → (new ≡ other) × (r ≡ s)
+lists-only file old new other r s x y =
+    let e = listing-one file (x .text) (y .text) (x .listing) (y .listing) in
+    (x .bytes ∙ ap (λ (t : List ℕ). t ++ drop (length t) old) e ∙ sym (y .bytes), x .answer ∙ ap length e ∙ sym (y .answer))
