@@ -1,0 +1,2 @@
+-- Laws of the firmware's calls.
+pub mod Only

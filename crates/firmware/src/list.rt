@@ -1,0 +1,43 @@
+// The whole list at once, and the class of a number of refusal.
+use crate::lent::number;
+use crate::lent::value;
+use planner::Class;
+ghost use mathlib.Core.Path.{_≡_};
+ghost use Rattle.planner.specs.Answer.{class-of};
+ghost use Rattle.firmware.specs.Lent.{class-number};
+ghost use Rattle.firmware.specs.Calls.{JudgesList};
+
+#[no_mangle]
+pub extern "C" fn firmware_judge(
+    starts: &[u16],
+    deadlines: &[u16],
+    pairs: &[u16],
+    latest: &mut [u16],
+    answer: &mut usize,
+) -> u8
+    ensures { λ r. ⌜ JudgesList (now (starts .entry)) (now (deadlines .entry)) (now (pairs .entry)) (now (latest .entry)) (now (latest .exit)) r (now (answer .exit)) ⌝ }
+{
+    let told = planner::judge(starts, deadlines, pairs, latest);
+    *answer = value(told);
+    number(told)
+}
+
+#[no_mangle]
+pub extern "C" fn firmware_class(refusal: u8) -> u8
+    ensures { λ r. ⌜ r ≡ class-number (class-of refusal) ⌝ }
+{
+    told(planner::class_of(refusal))
+}
+
+// A class as a number.
+fn told(class: Class) -> u8
+    ensures { λ r. ⌜ r ≡ class-number class ⌝ }
+{
+    match class {
+        Class::None => 0,
+        Class::Room => 1,
+        Class::Request => 2,
+        Class::Plan => 3,
+        Class::Form => 4,
+    }
+}

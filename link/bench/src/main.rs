@@ -1,0 +1,292 @@
+//! The proved planner and the same engine in plain Rust, side by side in one run.
+//!
+//!     bench times [ROUNDS]       the table of times: median, and the ratio
+//!     bench cases                the names of the cases, one a line
+//!     bench count CASE SIDE N    one case N times, for a counter of instructions
+mod engine;
+mod lists;
+
+use lists::List;
+use std::hint::black_box;
+
+type Work = Box<dyn FnMut() -> usize>;
+
+/// One piece of work on either side; what both answer is compared.
+struct Pair {
+    proved: Work,
+    plain: Work,
+}
+
+/// A name, and how to make the work from so many seeds.
+struct Case {
+    name: String,
+    make: Box<dyn Fn(usize) -> Pair>,
+}
+
+const LISTS: usize = 12;
+
+fn main() {
+    let words: Vec<String> = std::env::args().collect();
+    let word = |k: usize| words.get(k).map_or("", |w| w.as_str());
+    match word(1) {
+        "times" => times(word(2).parse().unwrap_or(41)),
+        "cases" => cases().iter().for_each(|case| println!("{}", case.name)),
+        "count" => count(word(2), word(3), word(4).parse().unwrap()),
+        _ => eprintln!("bench times [ROUNDS] | cases | count CASE SIDE CALLS"),
+    }
+}
+
+fn cases() -> Vec<Case> {
+    let mut cases = vec![];
+    let mut add = |name: String, make: Box<dyn Fn(usize) -> Pair>| cases.push(Case { name, make });
+    let kinds: [(&str, fn(usize, usize) -> List); 4] =
+        [("tight", lists::tight), ("barely none", lists::barely_none), ("wide", lists::wide), ("far", lists::far)];
+    for (kind, make) in kinds {
+        for n in [8, 16, 32, 64] {
+            add(
+                format!("list {kind} {n}"),
+                Box::new(move |seeds| whole((1..=seeds).map(|seed| make(n, seed)).collect())),
+            );
+        }
+    }
+    add("one more job".into(), Box::new(|seeds| request(books(lists::tight, 63, seeds), last_job(seeds))));
+    add(
+        "one more order".into(),
+        Box::new(|seeds| {
+            let books = books(lists::tight, 64, seeds);
+            let orders = books.iter().map(Both::new_order).collect();
+            request(books, orders)
+        }),
+    );
+    add(
+        "earlier deadline".into(),
+        Box::new(|seeds| {
+            let books = books(lists::tight, 64, seeds);
+            let drawn = books.iter().map(|both| Ask::Earlier(20, both.plain.latest[20] - 1)).collect();
+            request(books, drawn)
+        }),
+    );
+    add("plan near".into(), Box::new(|seeds| plan(books(lists::tight, 64, seeds))));
+    add("plan far".into(), Box::new(|seeds| plan(books(lists::far, 64, seeds))));
+    for (kind, list) in [("levels", lists::levels as fn() -> List), ("chain", lists::chain)] {
+        add(format!("read {kind}"), Box::new(move |_| read(&Both::of(&list(), 64))));
+        add(format!("write {kind}"), Box::new(move |_| write(&Both::of(&list(), 64))));
+    }
+    cases
+}
+
+fn books(make: fn(usize, usize) -> List, n: usize, seeds: usize) -> Vec<Both> {
+    (1..=seeds).map(|seed| Both::of(&make(64, seed), n)).collect()
+}
+
+fn last_job(seeds: usize) -> Vec<Ask> {
+    (1..=seeds).map(|seed| lists::tight(64, seed)).map(|list| Ask::Job(list.starts[63], list.deadlines[63])).collect()
+}
+
+/// The same book on both sides.
+#[derive(Clone)]
+struct Both {
+    proved: planner::Book,
+    plain: engine::Book,
+}
+
+#[derive(Clone, Copy)]
+enum Ask {
+    Job(u16, u16),
+    Order(u16, u16),
+    Earlier(u16, u16),
+}
+
+fn ask_proved(book: &mut planner::Book, ask: Ask) -> usize {
+    use planner::{JobIndex, Request};
+    let request = match ask {
+        Ask::Job(start, deadline) => Request::Job { start, deadline },
+        Ask::Order(first, second) => Request::Before { first: JobIndex(first), second: JobIndex(second) },
+        Ask::Earlier(job, deadline) => Request::Earlier { job: JobIndex(job), deadline },
+    };
+    told(book.apply(request).map_err(|r| (r.number, r.value)))
+}
+
+fn ask_plain(book: &mut engine::Book, ask: Ask) -> usize {
+    told(match ask {
+        Ask::Job(start, deadline) => book.add_job(start, deadline),
+        Ask::Order(first, second) => book.add_order(first as usize, second as usize),
+        Ask::Earlier(job, deadline) => book.draw_in(job as usize, deadline),
+    })
+}
+
+/// An answer as one number.
+fn told(answer: engine::Answer) -> usize {
+    answer.unwrap_or_else(|(number, value)| 1_000_000 * number as usize + value)
+}
+
+impl Both {
+    /// The first n jobs of a list and the orders among them.
+    fn of(list: &List, n: usize) -> Both {
+        let mut both = Both { proved: planner::Book::open(), plain: engine::Book::open() };
+        let jobs = (0..n).map(|i| Ask::Job(list.starts[i], list.deadlines[i]));
+        let pairs = list.pairs.chunks(2).filter(|p| p.iter().all(|&job| (job as usize) < n));
+        for ask in jobs.chain(pairs.map(|p| Ask::Order(p[0], p[1]))) {
+            let (a, b) = (ask_proved(&mut both.proved, ask), ask_plain(&mut both.plain, ask));
+            assert!(a == b && a < 64);
+        }
+        both
+    }
+
+    /// An order that does not follow yet.
+    fn new_order(&self) -> Ask {
+        let before = &self.plain.before;
+        let pairs = (0..64u16).flat_map(|a| (0..64u16).map(move |b| (a, b))).skip(1000);
+        let free =
+            |&(a, b): &(u16, u16)| a != b && before[a as usize] >> b & 1 == 0 && before[b as usize] >> a & 1 == 0;
+        let (a, b) = pairs.into_iter().find(free).unwrap();
+        Ask::Order(a, b)
+    }
+
+    fn file(&self) -> Vec<u8> {
+        let mut file = vec![0; 24_576];
+        let length = self.plain.write(&mut file).unwrap();
+        file.truncate(length);
+        file
+    }
+}
+
+/// Goes round a row of things, one a call.
+fn round<T>(things: Vec<T>) -> impl FnMut() -> (usize, std::rc::Rc<Vec<T>>) {
+    let things = std::rc::Rc::new(things);
+    let mut k = 0;
+    move || {
+        k = (k + 1) % things.len();
+        (k, things.clone())
+    }
+}
+
+fn whole(lists: Vec<List>) -> Pair {
+    let (mut ours, mut theirs) = (round(lists.clone()), round(lists));
+    let proved = move || {
+        let (k, lists) = ours();
+        let (list, mut row) = (black_box(&lists[k]), [0; 64]);
+        let answer = planner::judge(&list.starts, &list.deadlines, &list.pairs, &mut row);
+        told(answer.map(|_| 0).map_err(|r| (r.number, r.value))) + row[3] as usize
+    };
+    let plain = move || {
+        let (k, lists) = theirs();
+        let (list, mut row) = (black_box(&lists[k]), [0; 64]);
+        told(engine::judge(&list.starts, &list.deadlines, &list.pairs, &mut row)) + row[3] as usize
+    };
+    Pair { proved: Box::new(proved), plain: Box::new(plain) }
+}
+
+/// A request on a copy of a book; the copy is made on both sides.
+fn request(books: Vec<Both>, asks: Vec<Ask>) -> Pair {
+    let (mut ours, mut theirs) = (round(books.clone()), round(books));
+    let again = asks.clone();
+    let proved = move || {
+        let (k, books) = ours();
+        let mut book = black_box(&books[k].proved).clone();
+        ask_proved(&mut book, asks[k]) + black_box(&book).size()
+    };
+    let plain = move || {
+        let (k, books) = theirs();
+        let mut book = black_box(&books[k].plain).clone();
+        ask_plain(&mut book, again[k]) + black_box(&book).size
+    };
+    Pair { proved: Box::new(proved), plain: Box::new(plain) }
+}
+
+fn plan(books: Vec<Both>) -> Pair {
+    let (mut ours, mut theirs) = (round(books.clone()), round(books));
+    let (mut out, mut other) = (vec![0; 8192], vec![0; 8192]);
+    let proved = move || {
+        let (k, books) = ours();
+        told(black_box(&books[k].proved).plan(&mut out).map_err(|r| (r.number, r.value))) + out[5] as usize
+    };
+    let plain = move || {
+        let (k, books) = theirs();
+        told(black_box(&books[k].plain).plan(&mut other)) + other[5] as usize
+    };
+    Pair { proved: Box::new(proved), plain: Box::new(plain) }
+}
+
+fn read(both: &Both) -> Pair {
+    let (file, other) = (both.file(), both.file());
+    let proved = move || {
+        let (mut book, mut at) = (planner::Book::open(), 0);
+        while let planner::Event::Request(answer) = book.read(black_box(&file), &mut at) {
+            assert!(answer.is_ok());
+        }
+        at + book.size()
+    };
+    let plain = move || {
+        let (mut book, mut at) = (engine::Book::open(), 0);
+        while let Some(answer) = book.read(black_box(&other), &mut at) {
+            assert!(answer.is_ok());
+        }
+        at + book.size
+    };
+    Pair { proved: Box::new(proved), plain: Box::new(plain) }
+}
+
+fn write(both: &Both) -> Pair {
+    let (mut out, mut other) = (vec![0; 24_576], vec![0; 24_576]);
+    let (ours, theirs) = (both.clone(), both.clone());
+    let proved =
+        move || told(black_box(&ours.proved).write(&mut out).map_err(|r| (r.number, r.value))) + out[400] as usize;
+    let plain = move || told(black_box(&theirs.plain).write(&mut other)) + other[400] as usize;
+    Pair { proved: Box::new(proved), plain: Box::new(plain) }
+}
+
+/// Processor time of this thread in nanoseconds, since a machine may be shared.
+fn now() -> u64 {
+    let mut time = [0i64; 2];
+    unsafe extern "C" {
+        fn clock_gettime(clock: i32, time: *mut i64) -> i32;
+    }
+    unsafe { clock_gettime(3, time.as_mut_ptr()) };
+    time[0] as u64 * 1_000_000_000 + time[1] as u64
+}
+
+/// Nanoseconds a call, over so many calls, and the sum of what they answered.
+fn timed(work: &mut dyn FnMut() -> usize, calls: usize) -> (f64, usize) {
+    let begin = now();
+    let sum = (0..calls).map(|_| work()).fold(0usize, |sum, told| sum.wrapping_add(told));
+    ((now() - begin) as f64 / calls as f64, sum)
+}
+
+fn median(mut row: Vec<f64>) -> f64 {
+    row.sort_by(f64::total_cmp);
+    row[row.len() / 2]
+}
+
+fn times(rounds: usize) {
+    println!("| Work | proved, µs | plain Rust, µs | ratio |\n|---|---|---|---|");
+    for case in cases() {
+        let mut pair = (case.make)(LISTS);
+        let (first, second) = (timed(&mut pair.proved, LISTS), timed(&mut pair.plain, LISTS));
+        assert!(first.1 == second.1, "{}: the two sides answer differently", case.name);
+        let calls = ((400_000.0 / second.0) as usize).max(1);
+        let (mut ours, mut theirs) = (vec![], vec![]);
+        for _ in 0..if calls == 1 { rounds.min(11) } else { rounds } {
+            ours.push(timed(&mut pair.proved, calls).0);
+            theirs.push(timed(&mut pair.plain, calls).0);
+        }
+        let (a, b) = (median(ours), median(theirs));
+        println!("| {} | {:.2} | {:.2} | {:.2} |", case.name, a / 1000.0, b / 1000.0, a / b);
+    }
+}
+
+/// What runs inside this is counted.
+#[unsafe(no_mangle)]
+#[inline(never)]
+extern "C" fn bench_counted(work: &mut Work) -> usize {
+    work()
+}
+
+fn count(name: &str, side: &str, calls: usize) {
+    let case = cases().into_iter().find(|case| case.name == name).expect("a case");
+    let mut pair = (case.make)(calls);
+    let work = if side == "proved" { &mut pair.proved } else { &mut pair.plain };
+    for _ in 0..calls {
+        black_box(bench_counted(work));
+    }
+}

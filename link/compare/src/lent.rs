@@ -1,0 +1,174 @@
+//! Memory lent to the planner, with guard cells around each part, and the calls on it.
+use crate::reference::{self, Answer, Event, Request};
+use planner::raw;
+
+/// A lent row between guard cells. With none, the row ends where its memory ends, which is what valgrind watches.
+pub struct Lent<T> {
+    cells: Vec<T>,
+    guard: usize,
+    mark: T,
+}
+
+impl<T: Copy + PartialEq> Lent<T> {
+    pub fn new(row: &[T], mark: T, guard: usize) -> Lent<T> {
+        let around = vec![mark; guard];
+        Lent { cells: [&around, row, &around].concat(), guard, mark }
+    }
+
+    pub fn row(&self) -> &[T] {
+        &self.cells[self.guard..self.cells.len() - self.guard]
+    }
+
+    fn lend(&mut self) -> *mut T {
+        self.cells[self.guard..].as_mut_ptr()
+    }
+
+    pub fn kept(&self) -> bool {
+        let around = self.cells[..self.guard].iter().chain(&self.cells[self.cells.len() - self.guard..]);
+        around.into_iter().all(|&cell| cell == self.mark)
+    }
+}
+
+/// A book in lent memory, and the place for a value.
+pub struct Held {
+    size: Lent<usize>,
+    start: Lent<u16>,
+    latest: Lent<u16>,
+    before: Lent<u64>,
+    value: Lent<usize>,
+    pub guard: usize,
+}
+
+const UNSET: usize = 0x5e7_5e7;
+
+impl Held {
+    /// Opened in memory that holds anything.
+    pub fn open(guard: usize) -> Held {
+        let mut book = Held {
+            size: Lent::new(&[77], 1 << 40, guard),
+            start: Lent::new(&[0xabcd; 64], 0x1111, guard),
+            latest: Lent::new(&[0xdcba; 64], 0x2222, guard),
+            before: Lent::new(&[!0; 64], 0x3333, guard),
+            value: Lent::new(&[UNSET], UNSET, guard),
+            guard,
+        };
+        let (size, start, latest, before) = book.parts();
+        unsafe { raw::firmware_open(size, start, latest, before) }
+        book
+    }
+
+    fn parts(&mut self) -> (*mut usize, *mut raw::Times, *mut raw::Times, *mut raw::Sets) {
+        (self.size.lend(), self.start.lend().cast(), self.latest.lend().cast(), self.before.lend().cast())
+    }
+
+    /// The number and the value that a call left, as an answer.
+    fn answer(&mut self, number: u8) -> Answer {
+        let value = self.value.row()[0];
+        self.value.cells[self.guard] = UNSET;
+        if number == 0 { Ok(value) } else { Err((number, value)) }
+    }
+
+    pub fn apply(&mut self, request: Request) -> Answer {
+        let (size, start, latest, before) = self.parts();
+        let value = self.value.lend();
+        let number = unsafe {
+            match request {
+                Request::Job(s, d) => raw::firmware_add_job(size, start, latest, before, s, d, value),
+                Request::Before(a, b) => raw::firmware_add_order(size, start, latest, before, a, b, value),
+                Request::Earlier(j, d) => raw::firmware_draw_in(size, start, latest, before, j, d, value),
+            }
+        };
+        self.answer(number)
+    }
+
+    pub fn plan(&mut self, out: &mut Lent<u8>) -> Answer {
+        let (size, start, latest, before) = self.parts();
+        let (length, value) = (out.row().len(), self.value.lend());
+        let number = unsafe { raw::firmware_plan(*size, start, latest, before, out.lend(), length, value) };
+        self.answer(number)
+    }
+
+    pub fn place(&mut self, job: u16) -> Result<[usize; 4], (u8, usize)> {
+        let (size, start, latest, before) = self.parts();
+        let mut place = Lent::new(&[UNSET; 4], UNSET, self.guard);
+        let at = place.lend();
+        let number =
+            unsafe { raw::firmware_place(*size, start, latest, before, job, at, at.add(1), at.add(2), at.add(3)) };
+        let told: [usize; 4] = place.row().try_into().unwrap();
+        match number {
+            0 if place.kept() => Ok(told),
+            _ if told == [UNSET; 4] && place.kept() => Err((number, 0)),
+            _ => Err((number, UNSET)),
+        }
+    }
+
+    pub fn read(&mut self, file: &[u8], at: &mut usize) -> Event {
+        let (size, start, latest, before) = self.parts();
+        let file = Lent::new(file, 0x4a, self.guard);
+        let mut offset = Lent::new(&[*at], UNSET, self.guard);
+        let bytes = file.cells[self.guard..].as_ptr();
+        let (length, value) = (file.row().len(), self.value.lend());
+        let number = unsafe { raw::firmware_read(size, start, latest, before, bytes, length, offset.lend(), value) };
+        *at = if offset.kept() { offset.row()[0] } else { UNSET };
+        match (number, self.answer(number)) {
+            (255, Err((_, 0))) => Event::End,
+            (9..=11, Err((number, value))) => Event::Stopped(number, value),
+            (_, answer) => Event::Request(answer),
+        }
+    }
+
+    pub fn write(&mut self, out: &mut Lent<u8>) -> Answer {
+        let (size, start, latest, before) = self.parts();
+        let (length, value) = (out.row().len(), self.value.lend());
+        let number = unsafe { raw::firmware_write(*size, start, latest, before, out.lend(), length, value) };
+        self.answer(number)
+    }
+
+    /// Whether the book is the one wanted, with nothing beyond its jobs and its surroundings untouched.
+    pub fn is(&self, want: &reference::Book) -> bool {
+        let n = want.size();
+        let padded = |row: &[u16]| [row, &vec![0; 64 - n]].concat();
+        let set = |b: usize| (0..n).filter(|&a| want.precedes[a][b]).fold(0u64, |set, a| set | 1 << a);
+        let sets: Vec<u64> = (0..64).map(|b| if b < n { set(b) } else { 0 }).collect();
+        self.size.row() == [n]
+            && self.start.row() == padded(&want.list.starts)
+            && self.latest.row() == padded(&want.latest)
+            && self.before.row() == sets
+            && self.size.kept()
+            && self.start.kept()
+            && self.latest.kept()
+            && self.before.kept()
+            && self.value.kept()
+    }
+
+    pub fn text(&self) -> String {
+        let n = self.size.row()[0].min(64);
+        format!(
+            "size {} start {:?} latest {:?} before {:x?}",
+            self.size.row()[0],
+            &self.start.row()[..n],
+            &self.latest.row()[..n],
+            &self.before.row()[..n]
+        )
+    }
+}
+
+pub fn judge(starts: &[u16], deadlines: &[u16], pairs: &[u16], latest: &mut Lent<u16>) -> Answer {
+    let guard = latest.guard;
+    let lend = |row: &[u16]| Lent::new(row, 0x0101, guard);
+    let (mut starts, mut deadlines, mut pairs) = (lend(starts), lend(deadlines), lend(pairs));
+    let mut value = Lent::new(&[UNSET], UNSET, guard);
+    let (s, d, p, l) = (starts.row().len(), deadlines.row().len(), pairs.row().len(), latest.row().len());
+    let number = unsafe {
+        raw::firmware_judge(starts.lend(), s, deadlines.lend(), d, pairs.lend(), p, latest.lend(), l, value.lend())
+    };
+    if !value.kept() {
+        return Err((number, UNSET));
+    }
+    let value = value.row()[0];
+    if number == 0 { Ok(value) } else { Err((number, value)) }
+}
+
+pub fn class(number: u8) -> u8 {
+    unsafe { raw::firmware_class(number) }
+}

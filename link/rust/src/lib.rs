@@ -1,0 +1,248 @@
+//! The buoy planner: jobs of one slot for two equal cores, with starts, deadlines and orders.
+//!
+//! What is here only hands over: the work is done by functions that are proved to meet their contracts.
+//! A book is opened empty and made by requests alone, which is all that those contracts assume of it:
+//!
+//! ```compile_fail,E0451
+//! let book = planner::Book { size: 65, ..planner::Book::open() };
+//! ```
+//!
+//! A job's number, a slot and a core are three types:
+//!
+//! ```compile_fail,E0308
+//! let book = planner::Book::open();
+//! book.place(planner::SlotTime(0));
+//! ```
+pub mod raw;
+
+use std::fmt;
+
+/// A job's number, as the book answered it.
+#[derive(Clone, Copy, Debug, PartialEq, Eq, PartialOrd, Ord, Hash)]
+pub struct JobIndex(pub u16);
+
+#[derive(Clone, Copy, Debug, PartialEq, Eq, PartialOrd, Ord, Hash)]
+pub struct SlotTime(pub usize);
+
+#[derive(Clone, Copy, Debug, PartialEq, Eq, PartialOrd, Ord, Hash)]
+pub struct CoreIndex(pub usize);
+
+/// A number of refusal, and what is returned with it. Nothing was changed.
+#[derive(Clone, Copy, Debug, PartialEq, Eq)]
+pub struct Refusal {
+    pub number: u8,
+    pub value: usize,
+}
+
+#[derive(Clone, Copy, Debug, PartialEq, Eq)]
+pub enum Class {
+    None = 0,
+    Room = 1,
+    Request = 2,
+    Plan = 3,
+    Form = 4,
+}
+
+#[derive(Clone, Copy, Debug, PartialEq, Eq)]
+pub enum Request {
+    Job { start: u16, deadline: u16 },
+    Before { first: JobIndex, second: JobIndex },
+    Earlier { job: JobIndex, deadline: u16 },
+}
+
+/// What one record of a job file led to.
+#[derive(Clone, Copy, Debug, PartialEq, Eq)]
+pub enum Event {
+    /// The request was answered, and the offset moved on.
+    Request(Result<usize, Refusal>),
+    End,
+    /// The file cannot be read further; the offset stays.
+    Stopped(Refusal),
+}
+
+#[derive(Clone, Copy, Debug, PartialEq, Eq)]
+pub struct Place {
+    pub slot: SlotTime,
+    pub core: CoreIndex,
+    pub end: usize,
+    pub spare: usize,
+}
+
+/// A book of jobs. It always has a plan.
+#[derive(Clone, Debug, PartialEq, Eq)]
+pub struct Book {
+    size: usize,
+    start: raw::Times,
+    latest: raw::Times,
+    before: raw::Sets,
+}
+
+impl Book {
+    /// An empty book.
+    pub fn open() -> Book {
+        let mut book = Book { size: 0, start: [0; 64], latest: [0; 64], before: [0; 64] };
+        unsafe { raw::firmware_open(&mut book.size, &mut book.start, &mut book.latest, &mut book.before) }
+        book
+    }
+
+    /// A new job answers its number, the other requests 0. A refused request leaves the book as it was.
+    pub fn apply(&mut self, request: Request) -> Result<usize, Refusal> {
+        let Book { size, start, latest, before } = self;
+        let mut value = 0;
+        let number = unsafe {
+            match request {
+                Request::Job { start: begin, deadline } => {
+                    raw::firmware_add_job(size, start, latest, before, begin, deadline, &mut value)
+                }
+                Request::Before { first, second } => {
+                    raw::firmware_add_order(size, start, latest, before, first.0, second.0, &mut value)
+                }
+                Request::Earlier { job, deadline } => {
+                    raw::firmware_draw_in(size, start, latest, before, job.0, deadline, &mut value)
+                }
+            }
+        };
+        answer(number, value)
+    }
+
+    pub fn add_job(&mut self, start: u16, deadline: u16) -> Result<JobIndex, Refusal> {
+        self.apply(Request::Job { start, deadline }).map(|number| JobIndex(number as u16))
+    }
+
+    pub fn add_order(&mut self, first: JobIndex, second: JobIndex) -> Result<(), Refusal> {
+        self.apply(Request::Before { first, second }).map(|_| ())
+    }
+
+    pub fn draw_in(&mut self, job: JobIndex, deadline: u16) -> Result<(), Refusal> {
+        self.apply(Request::Earlier { job, deadline }).map(|_| ())
+    }
+
+    /// Two bytes a slot, core 0 first, 255 for an idle core; answers the finishing time.
+    pub fn plan(&self, out: &mut [u8]) -> Result<usize, Refusal> {
+        let mut value = 0;
+        let (bytes, length) = (out.as_mut_ptr(), out.len());
+        let number = unsafe {
+            raw::firmware_plan(self.size, &self.start, &self.latest, &self.before, bytes, length, &mut value)
+        };
+        answer(number, value)
+    }
+
+    pub fn place(&self, job: JobIndex) -> Result<Place, Refusal> {
+        let (mut slot, mut core, mut end, mut spare) = (0, 0, 0, 0);
+        let number = unsafe {
+            raw::firmware_place(
+                self.size,
+                &self.start,
+                &self.latest,
+                &self.before,
+                job.0,
+                &mut slot,
+                &mut core,
+                &mut end,
+                &mut spare,
+            )
+        };
+        answer(number, 0).map(|_| Place { slot: SlotTime(slot), core: CoreIndex(core), end, spare })
+    }
+
+    /// One record of a job file at an offset.
+    pub fn read(&mut self, file: &[u8], at: &mut usize) -> Event {
+        let Book { size, start, latest, before } = self;
+        let mut value = 0;
+        let number =
+            unsafe { raw::firmware_read(size, start, latest, before, file.as_ptr(), file.len(), at, &mut value) };
+        match number {
+            255 => Event::End,
+            9..=11 => Event::Stopped(Refusal { number, value }),
+            _ => Event::Request(answer(number, value)),
+        }
+    }
+
+    /// The book as a job file; answers the number of bytes written.
+    pub fn write(&self, out: &mut [u8]) -> Result<usize, Refusal> {
+        let mut value = 0;
+        let (bytes, length) = (out.as_mut_ptr(), out.len());
+        let number = unsafe {
+            raw::firmware_write(self.size, &self.start, &self.latest, &self.before, bytes, length, &mut value)
+        };
+        answer(number, value)
+    }
+
+    pub fn size(&self) -> usize {
+        self.size
+    }
+
+    pub fn start(&self, job: JobIndex) -> Option<u16> {
+        self.start[..self.size].get(job.0 as usize).copied()
+    }
+
+    pub fn latest(&self, job: JobIndex) -> Option<u16> {
+        self.latest[..self.size].get(job.0 as usize).copied()
+    }
+
+    /// Whether a chain of orders leads from one job to the other.
+    pub fn precedes(&self, first: JobIndex, second: JobIndex) -> bool {
+        let row = self.before[..self.size].get(second.0 as usize).copied().unwrap_or(0);
+        row.checked_shr(first.0 as u32).unwrap_or(0) % 2 == 1
+    }
+}
+
+/// The whole list at once: pairs "first, second" laid flat; `latest` receives the latest times.
+pub fn judge(starts: &[u16], deadlines: &[u16], pairs: &[u16], latest: &mut [u16]) -> Result<(), Refusal> {
+    let mut value = 0;
+    let number = unsafe {
+        raw::firmware_judge(
+            starts.as_ptr(),
+            starts.len(),
+            deadlines.as_ptr(),
+            deadlines.len(),
+            pairs.as_ptr(),
+            pairs.len(),
+            latest.as_mut_ptr(),
+            latest.len(),
+            &mut value,
+        )
+    };
+    answer(number, value).map(|_| ())
+}
+
+fn answer(number: u8, value: usize) -> Result<usize, Refusal> {
+    match number {
+        0 => Ok(value),
+        _ => Err(Refusal { number, value }),
+    }
+}
+
+impl Refusal {
+    pub fn class(&self) -> Class {
+        match unsafe { raw::firmware_class(self.number) } {
+            1 => Class::Room,
+            2 => Class::Request,
+            3 => Class::Plan,
+            4 => Class::Form,
+            _ => Class::None,
+        }
+    }
+}
+
+impl fmt::Display for Refusal {
+    fn fmt(&self, f: &mut fmt::Formatter) -> fmt::Result {
+        let text = match self.number {
+            1 => "there is no room for more than 64 jobs",
+            2 => "start above 4,095 or deadline above 4,096",
+            3 => "deadline at most the job's start",
+            4 => "no valid plan meets the deadlines",
+            5 => "a job number that is not held",
+            6 => "an order that closes a loop",
+            7 => "rows of unequal length, or half a pair",
+            8 => "too few bytes lent",
+            9 => "a file over 24,576 bytes",
+            10 => "unknown mark",
+            11 => "no whole record at the offset",
+            _ => "unknown",
+        };
+        write!(f, "refused {}: {text} ({})", self.number, self.value)
+    }
+}
+
+impl std::error::Error for Refusal {}

@@ -1,0 +1,19 @@
+//! The functions of the static library as they are: a book is lent as its four parts, a row as pointer and length.
+//! Each book must be one that `firmware_open` and these functions made; no two of the lent places may overlap.
+
+pub type Times = [u16; 64];
+pub type Sets = [u64; 64];
+
+#[rustfmt::skip]
+unsafe extern "C" {
+    pub fn firmware_open(size: *mut usize, start: *mut Times, latest: *mut Times, before: *mut Sets);
+    pub fn firmware_add_job(size: *mut usize, start: *mut Times, latest: *mut Times, before: *mut Sets, begin: u16, deadline: u16, value: *mut usize) -> u8;
+    pub fn firmware_add_order(size: *mut usize, start: *mut Times, latest: *mut Times, before: *mut Sets, first: u16, second: u16, value: *mut usize) -> u8;
+    pub fn firmware_draw_in(size: *mut usize, start: *mut Times, latest: *mut Times, before: *mut Sets, job: u16, deadline: u16, value: *mut usize) -> u8;
+    pub fn firmware_judge(starts: *const u16, starts_length: usize, deadlines: *const u16, deadlines_length: usize, pairs: *const u16, pairs_length: usize, latest: *mut u16, latest_length: usize, value: *mut usize) -> u8;
+    pub fn firmware_plan(size: usize, start: *const Times, latest: *const Times, before: *const Sets, out: *mut u8, length: usize, value: *mut usize) -> u8;
+    pub fn firmware_place(size: usize, start: *const Times, latest: *const Times, before: *const Sets, job: u16, slot: *mut usize, core: *mut usize, end: *mut usize, spare: *mut usize) -> u8;
+    pub fn firmware_read(size: *mut usize, start: *mut Times, latest: *mut Times, before: *mut Sets, file: *const u8, length: usize, at: *mut usize, value: *mut usize) -> u8;
+    pub fn firmware_write(size: usize, start: *const Times, latest: *const Times, before: *const Sets, out: *mut u8, length: usize, value: *mut usize) -> u8;
+    pub fn firmware_class(number: u8) -> u8;
+}
