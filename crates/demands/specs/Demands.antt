@@ -1,5 +1,5 @@
 -- The customer's three demands, of what the public calls promise: apply (`Applies`), judge (`Judges`), plan (`Plans`), place (`Places`),
--- read (`ReadsRecord`), read_file (`ReadsFile`) and write (`WritesBook`). That a call ends is what a proved function means.
+-- read (`ReadsRecord`) and write (`WritesBook`). That a call ends is what a proved function means.
 -- Assumes nothing.
 use mathlib.Core.List.{List}
 use mathlib.Core.Logic.{_↔_}
@@ -25,7 +25,6 @@ use Rattle.planner.specs.Planned.{Plans, Places}
 use Rattle.jobfile.specs.declared.reader.Step.{Step}
 use Rattle.jobfile.specs.declared.reader.Event.the-variants.{Request as Asked, Stopped}
 use Rattle.jobfile.specs.Read.{ReadsRecord}
-use Rattle.jobfile.specs.File.{ReadsFile}
 use Rattle.jobfile.specs.Write.{WritesBook}
 use Rattle.jobfile.specs.RoundTrip.{ReadsBack}
 
