@@ -16,7 +16,7 @@ use lib.Pow.{pow-pos, pow-lt, pow-mono, mod-pow-add, shr-shr, shl-exact}
 use Rattle.schedule.specs.Count.{one, count}
 use Rattle.schedule.proofs.Tests.{test, and-pair, and-fst, and-snd, lt-by}
 use Rattle.schedule.proofs.Counting.{count-lt, count-but, count-mono}
-use Rattle.planner.specs.Sets.{has}
+use Rattle.planner.specs.Sets.{has, least}
 
 -- what holds at 0 and at 1 holds of a digit
 digit : (P : ℕ → Type 0) → P 0 → P 1 → (n : ℕ) → P (n % 2)
@@ -242,6 +242,51 @@ trailing-has (suc k) x h f = go (x % 2) refl (λ g. trailing-has k (x / 2) (let 
         (under r (trailingZeros k (x / 2)) < suc k) × T (has x (under r (trailingZeros k (x / 2))))
     go zero e ih = let y = ih (λ z. f (omega arith)) in (omega (arith, y .0), rw half-has (y .1))
     go (suc r) e ih = (omega arith, lowest (omega arith))
+
+-- no digit below the lowest one is set
+pub trailing-none : (k x j : ℕ) → j < trailingZeros k x → has x j ≡ false
+unfolding trailingZeros
+trailing-none zero x j h = absurd (omega arith)
+trailing-none (suc k) x j h = go (x % 2) refl j h (λ i. trailing-none k (x / 2) i)
+  where
+    go : (r : ℕ) → x % 2 ≡ r → (i : ℕ) → i < under r (trailingZeros k (x / 2)) → ((i : ℕ) → i < trailingZeros k (x / 2) → has (x / 2) i ≡ false) → has x i ≡ false
+    go zero e zero l ih = unfold has in simp (div-one, e)
+    go zero e (suc i) l ih = half-has x i ∙ ih i (omega arith)
+    go (suc r) e i l ih = absurd (omega arith)
+
+-- one less has the digits above the lowest one, and not that one
+lessened : (k x j : ℕ) → x < 2 ^ k → (x ≡ 0 → ⊥) → (has x j && has (x - 1) j) ≡ (has x j && not (eqb j (trailingZeros k x)))
+unfolding trailingZeros
+lessened zero x j h f = absurd (f (omega arith))
+lessened (suc k) x j h f = go (x % 2) refl j (λ i g. lessened k (x / 2) i (let e : x / 2 < 2 ^ k = omega (arith, rw pow-suc at h) in e) g)
+  where
+    twice : (b : Bool) → (b && b) ≡ (b && true)
+    twice true = refl
+    twice false = refl
+
+    even : (y : ℕ) → y % 2 ≡ 0 → has y 0 ≡ false
+    even y e = unfold has in simp (div-one, e)
+
+    go : (r : ℕ) → x % 2 ≡ r → (i : ℕ) → ((i : ℕ) → (x / 2 ≡ 0 → ⊥) → (has (x / 2) i && has (x / 2 - 1) i) ≡ (has (x / 2) i && not (eqb i (trailingZeros k (x / 2))))) →
+        (has x i && has (x - 1) i) ≡ (has x i && not (eqb i (under r (trailingZeros k (x / 2)))))
+    go zero e zero ih = simp (even x e)
+    go zero e (suc i) ih =
+        let s : (x - 1) / 2 ≡ x / 2 - 1 = omega arith in
+        simp (half-has, s, eqb·suc-suc) (ih i (λ z. f (omega arith)))
+    go (suc r) e zero ih =
+        let s : (x - 1) % 2 ≡ 0 = omega arith in
+        simp (even (x - 1) s)
+    go (suc r) e (suc i) ih =
+        let s : (x - 1) / 2 ≡ x / 2 = omega arith in
+        simp (half-has, s, eqb·suc-zero) (twice (has (x / 2) i))
+
+-- the lowest one taken out of x
+pub rest-has : (x j : ℕ) → x < 2 ^ 64 → (x ≡ 0 → ⊥) → has (bitAnd x (x - 1)) j ≡ (has x j && not (eqb j (least x)))
+rest-has x j h f = and-has x (x - 1) j ∙ lessened 64 x j h f
+
+-- a walk that takes the first job k of x has x without k before it
+pub rest-walk : (x y k : ℕ) → k ≡ least x → ((j : ℕ) → has y j ≡ (has x j && not (eqb j (least x)))) → (j : ℕ) → has y j ≡ (has x j && not (eqb j k))
+rest-walk x y k e w j = rw e (w j)
 
 -- A walk over a set, job by job: x without k is y.
 module _ (x y k : ℕ) (w : (j : ℕ) → has y j ≡ (has x j && not (eqb j k))) where

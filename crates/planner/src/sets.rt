@@ -1,11 +1,11 @@
 // Sets of jobs in 64 bits.
 use schedule::JobIndex;
-ghost use mathlib.Core.Bool.{_&&_, _||_, not};
+ghost use mathlib.Core.Bool.{false, _&&_, _||_, not};
 ghost use mathlib.Core.Path.{_≡_};
 ghost use Prim.Native.Nat.{ℕ, _<_, _≤_};
 ghost use lib.Dec.{T, eqb, ltb};
 ghost use Rattle.schedule.specs.Count.{count};
-ghost use Rattle.planner.specs.Sets.{has, pressed};
+ghost use Rattle.planner.specs.Sets.{has, least, pressed};
 
 // Whether a job is in the set.
 pub fn has(set: u64, job: JobIndex) -> bool
@@ -52,9 +52,17 @@ pub fn below(n: usize) -> u64
 // The first job of a set that has one.
 pub fn first(set: u64) -> JobIndex
     requires { ⌜ (set ≡ 0 → ⊥) ⌝ }
-    ensures { λ r. ⌜ (r .0 < 64) × T (has set (r .0)) ⌝ }
+    ensures { λ r. ⌜ (r .0 < 64) × T (has set (r .0)) × ((j : ℕ) → j < r .0 → has set j ≡ false) × (r .0 ≡ least set) ⌝ }
 {
     JobIndex(u64::trailing_zeros(set) as usize)
+}
+
+// The set without its first job.
+pub fn rest(set: u64) -> u64
+    requires { ⌜ (set ≡ 0 → ⊥) ⌝ }
+    ensures { λ r. ⌜ ((j : ℕ) → has r j ≡ (has set j && not (eqb j (least set)))) ⌝ }
+{
+    set & (set - 1)
 }
 
 // N: how many jobs other than this one are due, and follow it or start late.

@@ -1,8 +1,9 @@
 -- `planner::sets::first` meets its contract.
 -- Assumes nothing.
+use mathlib.Core.Path.{refl}
 use native.Mathlib.Omega.{arith}
 use lib.Count.{trailing-le}
-use Rattle.planner.proofs.Bits.{trailing-has}
+use Rattle.planner.proofs.Bits.{trailing-has, trailing-none}
 use Rattle.planner.proofs.sets.first.Statement.{statement}
 use Rattle.planner.proofs.sets.first.Tie as tie
 
@@ -10,7 +11,10 @@ cast-t3 : tie.Need-cast-t3
 cast-t3 c = omega (arith, trailing-le 64 (c .args .set))
 
 returns : tie.Need-returns
-returns c = trailing-has 64 (c .args .set) (c .fits .set .fits) (c .pre)
+returns c =
+    let s = c .args .set in
+    let t = trailing-has 64 s (c .fits .set .fits) (c .pre) in
+    (t .0, t .1, trailing-none 64 s, refl)
 
 pub first-spec : {M : Type 1} → statement M
 first-spec = tie.close (tie.spec cast-t3 returns)

@@ -1,0 +1,15 @@
+-- `planner::sets::rest` meets its contract.
+-- Assumes nothing.
+use borrow.Author.Needs.{needs}
+use Rattle.planner.proofs.Bits.{rest-has}
+use Rattle.planner.proofs.sets.rest.Statement.{statement}
+use Rattle.planner.proofs.sets.rest.Tie as tie
+
+sub-result : tie.Need-sub-result
+sub-result c = search needs
+
+returns : tie.Need-returns
+returns c j = rest-has (c .args .set) j (c .fits .set .fits) (c .pre)
+
+pub rest-spec : {M : Type 1} → statement M
+rest-spec = tie.close (tie.spec sub-result returns)
