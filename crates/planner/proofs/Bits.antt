@@ -10,7 +10,7 @@ use mathlib.Core.Logic.{_⊎_, inl, inr, ⊎-elim}
 use mathlib.Core.Path.{_≡_, refl, sym, ap, ap₂, _∙_, subst}
 use borrow.Author.Tests.{lt-ltb, le-ltb, eq-eqb, ne-eqb, eqb-true}
 use lib.Dec.{T, T-not, not-T, eqb→eq, eqb-refl, eqb, ltb, lit<, eqb·suc-zero, eqb·zero-suc, eqb·suc-suc}
-use lib.Bits.{bitAnd, bitOr, bitXor, and-lt, and-shr, or-shr, xor-shr, and-mod, or-mod, xor-mod}
+use lib.Bits.{bitAnd, bitOr, bitXor, and-le-r, and-shr, or-shr, xor-shr, and-mod, or-mod, xor-mod}
 use lib.Count.{ones, ones-cat, trailingZeros, under}
 use lib.Pow.{pow-pos, pow-lt, pow-mono, mod-pow-add, shr-shr, shl-exact}
 use Rattle.schedule.specs.Count.{one, count}
@@ -130,17 +130,20 @@ only-is i h = shl-exact 1 i 64 (lit< tt) (omega arith) ∙ one-mul (2 ^ i)
 pub only-has : (i j : ℕ) → i < 64 → has (only i) j ≡ eqb j i
 only-has i j h = ap (λ (n : ℕ). has n j) (only-is i h) ∙ one-has i j
 
--- i put into x, and i taken out of x
+-- i put into x, y taken out of x, and i alone taken out of it
 pub with-has : (x i j : ℕ) → i < 64 → has (bitOr x (only i)) j ≡ (has x j || eqb j i)
 with-has x i j h = or-has x (only i) j ∙ ap (λ (b : Bool). has x j || b) (only-has i j h)
 
-pub without-has : (x i j : ℕ) → x < 2 ^ 64 → i < 64 → has (bitAnd x ((2 ^ 64 - 1) - only i)) j ≡ (has x j && not (eqb j i))
-without-has x i j hx hi =
-    and-has x ((2 ^ 64 - 1) - only i) j ∙ go (decLt j 64)
+pub except-has : (x y j : ℕ) → x < 2 ^ 64 → y < 2 ^ 64 → has (bitAnd x ((2 ^ 64 - 1) - y)) j ≡ (has x j && not (has y j))
+except-has x y j hx hy =
+    and-has x ((2 ^ 64 - 1) - y) j ∙ go (decLt j 64)
   where
-    go : Dec (j < 64) → (has x j && has ((2 ^ 64 - 1) - only i) j) ≡ (has x j && not (eqb j i))
-    go (yes h) = ap (λ (b : Bool). has x j && b) (not-has 64 (only i) j (mod-lt (1 * 2 ^ i) (lit< tt)) h ∙ ap not (only-has i j hi))
+    go : Dec (j < 64) → (has x j && has ((2 ^ 64 - 1) - y) j) ≡ (has x j && not (has y j))
+    go (yes h) = ap (λ (b : Bool). has x j && b) (not-has 64 y j hy h)
     go (no h) = simp (high-has x j (lt-of-lt-of-le hx (pow-mono {i = 64} {j = j} (omega arith))))
+
+pub without-has : (x i j : ℕ) → x < 2 ^ 64 → i < 64 → has (bitAnd x ((2 ^ 64 - 1) - only i)) j ≡ (has x j && not (eqb j i))
+without-has x i j hx hi = except-has x (only i) j hx (mod-lt (1 * 2 ^ i) (lit< tt)) ∙ ap (λ (b : Bool). has x j && not b) (only-has i j hi)
 
 -- counts of tests that agree agree; a count is at most the numbers counted
 pub count-same : (n : ℕ) (p q : ℕ → Bool) → ((j : ℕ) → j < n → p j ≡ q j) → count n p ≡ count n q
@@ -314,8 +317,8 @@ none-both true true f = absurd (f tt tt)
 none-both true false f = refl
 none-both false b f = refl
 
-pub apart-is : (x y : ℕ) → x < 2 ^ 64 → y < 2 ^ 64 → ((a : ℕ) → T (has x a) → T (has y a) → ⊥) → bitAnd x y ≡ 0
-apart-is x y hx hy f = empty-is (bitAnd x y) (and-lt 64 x y hx hy) (λ j. and-has x y j ∙ none-both (has x j) (has y j) (f j))
+pub apart-is : (x y : ℕ) → y < 2 ^ 64 → ((a : ℕ) → T (has x a) → T (has y a) → ⊥) → bitAnd x y ≡ 0
+apart-is x y h f = empty-is (bitAnd x y) (omega (arith, and-le-r x y)) (λ j. and-has x y j ∙ none-both (has x j) (has y j) (f j))
 
 pub apart-has : (x y : ℕ) → bitAnd x y ≡ 0 → (a : ℕ) → T (has x a) → T (has y a) → ⊥
 apart-has x y e a t u = has-some (bitAnd x y) a (rw (and-has x y a) (and-pair (has x a) (has y a) t u)) e

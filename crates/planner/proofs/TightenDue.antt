@@ -7,9 +7,9 @@ use mathlib.Core.Path.{_≡_, refl, _∙_}
 use Prim.Native.Nat.{ℕ, _+_, _≤_, _<_}
 use native.Mathlib.Omega.{arith}
 use borrow.Author.Tests.{lt-ltb, le-ltb, le-leb, lt-leb}
-use lib.Dec.{T, eqb, eqb→eq, leb, ltb, lt→ltb}
+use lib.Dec.{T, eqb, eqb→eq, leb, ltb, ltb→lt, lt→ltb}
 use lib.ListN.{getD}
-use Rattle.schedule.proofs.Tests.{and-pair, or-split, le-or-lt}
+use Rattle.schedule.proofs.Tests.{and-fst, and-pair, or-split, le-or-lt}
 use Rattle.planner.specs.declared.tighten.Due.{Due}
 use Rattle.planner.specs.Sets.{has}
 use Rattle.planner.specs.Inner.Lower.{DueBy, DueBelow}
@@ -66,3 +66,7 @@ due-by limit size row r b some j = b .jobs j ∙ go (le-or-lt size j) (le-or-lt 
     go (inr l) (inr h) =
         let in-set : T (has (r .jobs) j) = rw (b .jobs j) (and-pair (ltb j size) (ltb (getD row j 0) limit) (lt→ltb j size l) (lt→ltb (getD row j 0) limit h)) in
         simp (lt-ltb (getD row j 0) limit h, le-leb (getD row j 0) (r .d) (b .top j in-set))
+
+-- they are jobs of the row
+pub below-job : (limit size : ℕ) (row : List ℕ) (r : Due) → DueBelow limit size row r → (j : ℕ) → T (has (r .jobs) j) → j < size
+below-job limit size row r b j t = ltb→lt j size (and-fst (ltb j size) (ltb (getD row j 0) limit) (rw (b .jobs j) at t))

@@ -122,11 +122,10 @@ earliest-of size start before = raise (jobs-in size start before) size
 
 pub record Making (size : ℕ) (start before early order : List ℕ) (todo k : ℕ) : Type 0 where
   pub in-row : k ≤ size
-  pub lengths : (length early ≡ 65) × (length order ≡ 64)
+  pub lengths : (length early ≡ 64) × (length order ≡ 64)
   pub held : (j : ℕ) → T (has todo j) → j < size
   pub left : count 64 (has todo) + k ≡ size
   pub done : (i : ℕ) → i < size → T (has todo i) ⊎ (getD early i 0 ≡ earliest-of size start before i)
-  pub high : (i : ℕ) → size ≤ i → i < 65 → getD early i 0 ≡ 65535
   pub jobs : (l : ℕ) → l < k → getD order l 0 < size
 
 module _ (size : ℕ) (start before : List ℕ) (s : Startable size start before) where
@@ -139,25 +138,23 @@ module _ (size : ℕ) (start before : List ℕ) (s : Startable size start before
   e : Earliest J E
   e = raise-earliest J (s .closed) (s .loopless)
 
-  pub making-start : (early order : List ℕ) (todo : ℕ) → length early ≡ 65 → length order ≡ 64 → ((i : ℕ) → i < 65 → getD early i 0 ≡ 65535) →
-      ((j : ℕ) → has todo j ≡ ltb j size) → Making size start before early order todo 0
-  making-start early order todo le lo h w = record {
+  pub making-start : (early order : List ℕ) (todo : ℕ) → length early ≡ 64 → length order ≡ 64 → ((j : ℕ) → has todo j ≡ ltb j size) → Making size start before early order todo 0
+  making-start early order todo le lo w = record {
     in-row = omega arith;
     lengths = (le, lo);
     held = λ j t. ltb→lt j size (rw (w j) at t);
     left = omega (arith, count-cut size 64 (has todo) (λ j. true) (s .few) (λ j l. w j ∙ lt-ltb j size l) (λ j g. w j ∙ le-ltb j size g), count-all size);
     done = λ i l. inl (subst T (sym (w i ∙ lt-ltb i size l)) tt);
-    high = λ i g l. h i l;
     jobs = λ l x. absurd (omega arith);
   }
 
   module _ (early order : List ℕ) (todo k : ℕ) (q : Making size start before early order todo k) where
-    pub making-free : k < size → (i : ℕ) × (i < 64) × Free i (getD before i 0) todo
+    pub making-free : k < size → (i : ℕ) × Free i (getD before i 0) todo
     making-free l =
         let n : count 64 (has todo) ≡ count size (has todo) = count-cut size 64 (has todo) (has todo) (s .few) (λ j x. refl)
         (λ j g. ⊎-elim (λ t. absurd (omega (arith, q .held j t))) (λ f. none (has todo j) f) (test (has todo j))) in
         let x = some-free J E e todo (omega (arith, q .left)) in
-        (x .0, omega (arith, x .1, s .few), record { member = x .2; ready = λ a t u. x .3 a (s .held a (x .0) t .0) t u })
+        (x .0, record { member = x .2; ready = λ a t u. x .3 a (s .held a (x .0) t .0) t u })
       where
         none : (b : Bool) → (T b → ⊥) → b ≡ false
         none true f = absurd (f tt)
@@ -167,41 +164,39 @@ module _ (size : ℕ) (start before : List ℕ) (s : Startable size start before
       ready : (a : ℕ) → T (has (getD before i 0) a) → (a < size) × (getD early a 0 ≡ E a)
       ready a t = let l = s .held a i t .0 in (l, ⊎-elim (λ u. absurd (f .ready a t u)) (λ x. x) (q .done a l))
 
-      -- the predecessors of a free job have their times
-      pub making-low : (a : ℕ) → T (has (getD before i 0) a) → getD early a 0 < 65535
-      making-low a t = let x = ready a t in omega (arith, x .1, s .few, earliest-low J E e (s .closed) (s .loopless) (s .starts) a (x .0))
+      li : i < size
+      li = q .held i (f .member)
 
-      pub making-next : k < size → (time more : ℕ) → After (getD start i 0) (getD before i 0) early time →
-          ((j : ℕ) → has more j ≡ (has todo j && not (eqb j i))) → Making size start before (set early i time) (set order k i) more (k + 1)
-      making-next l time more a w = record {
-        in-row = omega arith;
-        lengths = (simp length-set (q .lengths .0), simp length-set (q .lengths .1));
-        held = λ j t. q .held j (walk-sub todo more i w j t);
-        left = omega (arith, q .left, walk-one todo more i w (omega (arith, li, s .few)) (f .member));
-        done = λ j lj. ⊎-elim (λ t. ⊎-elim (λ x. inr (rw x here)) (λ x. inl x) (walk-split todo more i w j t))
-            (λ x. ⊎-elim (λ t. ⊎-elim (λ y. inr (rw y here)) (λ y. inl y) (walk-split todo more i w j t)) (λ g. inr (getD-set-other early i j time 0 (λ y. g (rw y (f .member))) ∙ x)) (test (has todo j))) (q .done j lj);
-        high = λ j g h. getD-set-other early i j time 0 (λ y. omega (arith, li)) ∙ q .high j g h;
-        jobs = below-more (λ x. getD (set order k i) x 0 < size) k
-            (λ x h. rw (getD-set-other order k x i 0 (λ y. omega arith)) (q .jobs x h))
-            (rw (getD-set-same order k i 0 (omega (arith, s .few, q .lengths .1))) li);
-      }
-        where
-          li : i < size
-          li = q .held i (f .member)
+      module _ (time : ℕ) (a : After (getD start i 0) (getD before i 0) early time) where
+        timed : time ≡ E i
+        timed = le-antisymm
+            (⊎-elim (λ x. omega (arith, e .raised .above i li)) (λ x. omega (arith, x .2, ready (x .0) (x .1) .1, e .raised .apart (x .0) i (ready (x .0) (x .1) .0) li (x .1))) (a .some))
+            (earliest-under J E e i time li (a .from) (λ b lb t. omega (arith, a .later b t, ready b t .1)))
 
-          over : E i ≤ time
-          over = earliest-under J E e i time li (a .from) (λ b lb t. omega (arith, a .later b t, ready b t .1))
+        -- the time fits in 16 digits
+        pub making-time : time < 65535
+        making-time = omega (arith, timed, s .few, earliest-low J E e (s .closed) (s .loopless) (s .starts) i li)
 
-          under : time ≤ E i
-          under = ⊎-elim (λ x. omega (arith, e .raised .above i li)) (λ x. omega (arith, x .2, ready (x .0) (x .1) .1, e .raised .apart (x .0) i (ready (x .0) (x .1) .0) li (x .1))) (a .some)
-
-          here : getD (set early i time) i 0 ≡ E i
-          here = getD-set-same early i time 0 (omega (arith, s .few, li, q .lengths .0)) ∙ le-antisymm under over
+        pub making-next : k < size → (more : ℕ) → ((j : ℕ) → has more j ≡ (has todo j && not (eqb j i))) → Making size start before (set early i time) (set order k i) more (k + 1)
+        making-next l more w = record {
+          in-row = omega arith;
+          lengths = (simp length-set (q .lengths .0), simp length-set (q .lengths .1));
+          held = λ j t. q .held j (walk-sub todo more i w j t);
+          left = omega (arith, q .left, walk-one todo more i w (omega (arith, li, s .few)) (f .member));
+          done = λ j lj. ⊎-elim (λ t. ⊎-elim (λ x. inr (rw x here)) (λ x. inl x) (walk-split todo more i w j t))
+              (λ x. ⊎-elim (λ t. ⊎-elim (λ y. inr (rw y here)) (λ y. inl y) (walk-split todo more i w j t)) (λ g. inr (getD-set-other early i j time 0 (λ y. g (rw y (f .member))) ∙ x)) (test (has todo j))) (q .done j lj);
+          jobs = below-more (λ x. getD (set order k i) x 0 < size) k
+              (λ x h. rw (getD-set-other order k x i 0 (λ y. omega arith)) (q .jobs x h))
+              (rw (getD-set-same order k i 0 (omega (arith, s .few, q .lengths .1))) li);
+        }
+          where
+            here : getD (set early i time) i 0 ≡ E i
+            here = getD-set-same early i time 0 (omega (arith, s .few, li, q .lengths .0)) ∙ timed
 
     pub making-end : size ≤ k → Begins size start before early order
     making-end h = record {
       earliest = earliest-same J E (row-in early) all e;
-      rising = record { few = s .few; low = λ i l. omega (arith, all i l, s .few, earliest-low J E e (s .closed) (s .loopless) (s .starts) i l); high = q .high };
+      low = λ i l. omega (arith, all i l, s .few, earliest-low J E e (s .closed) (s .loopless) (s .starts) i l);
       jobs = λ l x. q .jobs l (omega arith);
     }
       where

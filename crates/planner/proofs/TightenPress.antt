@@ -4,7 +4,7 @@ use mathlib.Core.Bool.{Bool, true, false, not, _&&_, _||_}
 use mathlib.Core.List.{List}
 use mathlib.Core.Logic.{_⊎_, inl, inr, ⊎-elim}
 use mathlib.Core.Path.{_≡_, refl, sym, ap, ap₂, _∙_}
-use Prim.Native.Nat.{ℕ, _-_, _*_, _≤_, _<_}
+use Prim.Native.Nat.{ℕ, _+_, _-_, _*_, _≤_, _<_}
 use native.Mathlib.Nat.{le-refl}
 use native.Mathlib.Omega.{arith}
 use borrow.Author.Tests.{lt-ltb, le-ltb, le-leb, lt-leb}
@@ -16,9 +16,8 @@ use Rattle.schedule.specs.Times.{N, presses}
 use Rattle.schedule.proofs.Tests.{le-or-lt}
 use Rattle.schedule.proofs.Press.{N-mono, N-bound}
 use Rattle.planner.specs.Sets.{has, pressed}
-use Rattle.planner.specs.Told.{row-in}
 use Rattle.planner.specs.Inner.Lower.{At, Pressure}
-use Rattle.planner.proofs.Bits.{empty-has, count-cut}
+use Rattle.planner.proofs.Bits.{count-cut}
 
 turned : (x y n : Bool) → ((x && y) && n) ≡ ((n && x) && y)
 turned true true true = refl
@@ -33,31 +32,22 @@ pub same-leb : (a b x : ℕ) → (a ≤ x → b ≤ x) → (b ≤ x → a ≤ x)
 same-leb a b x f g = ⊎-elim (λ h. le-leb a x h ∙ sym (le-leb b x (f h)))
     (λ h. lt-leb a x h ∙ sym (⊎-elim (λ y. absurd (omega (arith, g y))) (λ y. lt-leb b x y) (le-or-lt b x))) (le-or-lt a x)
 
-module _ (J : Jobs) (row : ℕ → ℕ) (i held d due followers : ℕ) (early late next : List ℕ) (a : At J row i held d due followers early late next) where
-  abbrev E : ℕ → ℕ
-  E = row-in early
+module _ (J : Jobs) (early row : ℕ → ℕ) (i held d due followers from : ℕ) (times late : List ℕ) (a : At J early row i held d due followers from times late) where
+  abbrev at : ℕ → ℕ
+  at k = getD times k 0
 
   abbrev Ns : ℕ → ℕ
-  Ns s = N J E row i s d
+  Ns s = N J early row i s d
 
-  -- an entry of the table: a job, or the one later than all
-  abbrev pub Entry : ℕ → Type 0
-  Entry k = (k < J .size) ⊎ (k ≡ 64)
-
-  late-is : (k j : ℕ) → Entry k → j < J .size → has (getD late k 0) j ≡ leb (E k) (E j)
-  late-is k j (inl l) lj = a .table .starts k l .set j ∙ ap (λ (b : Bool). b && leb (E k) (E j)) (lt-ltb j (J .size) lj)
-  late-is k j (inr e) lj =
-      let few = a .table .rising .few in
-      let top : E k ≡ 65535 = ap E e ∙ a .table .rising .high 64 few (omega arith) in
-      ap (λ (n : ℕ). has (getD late n 0) j) e ∙ ap (λ (n : ℕ). has n j) (a .table .none) ∙ empty-has j
-      ∙ sym (lt-leb (E k) (E j) (omega (arith, a .table .rising .low j lj)))
+  late-is : (k j : ℕ) → k < 65 → j < J .size → has (getD late k 0) j ≡ leb (at k) (early j)
+  late-is k j l lj = a .levels .set k j l ∙ ap (λ (b : Bool). b && leb (at k) (early j)) (lt-ltb j (J .size) lj)
 
   -- the count of ones is N, at any s that has the entry's late starters
-  pub press-N : (k s : ℕ) → Entry k → ((j : ℕ) → j < J .size → leb (E k) (E j) ≡ leb s (E j)) → count 64 (pressed due followers (getD late k 0) i) ≡ Ns s
+  pub press-N : (k s : ℕ) → k < 65 → ((j : ℕ) → j < J .size → leb (at k) (early j) ≡ leb s (early j)) → count 64 (pressed due followers (getD late k 0) i) ≡ Ns s
   unfolding N
-  press-N k s x same = count-cut (J .size) 64 (pressed due followers (getD late k 0) i) (presses J E row i s d) (a .table .rising .few) inside beyond
+  press-N k s x same = count-cut (J .size) 64 (pressed due followers (getD late k 0) i) (presses J early row i s d) (a .levels .few) inside beyond
     where
-      inside : (j : ℕ) → j < J .size → pressed due followers (getD late k 0) i j ≡ presses J E row i s d j
+      inside : (j : ℕ) → j < J .size → pressed due followers (getD late k 0) i j ≡ presses J early row i s d j
       inside j l =
           let t : ltb j (J .size) ≡ true = lt-ltb j (J .size) l in
           turned (has due j) (has followers j || has (getD late k 0) j) (not (eqb j i))
@@ -70,90 +60,86 @@ module _ (J : Jobs) (row : ℕ → ℕ) (i held d due followers : ℕ) (early la
           (a .soon j ∙ ap (λ (b : Bool). b && leb (row j) d) (le-ltb j (J .size) g))
 
   pub N-falls : (s u : ℕ) → s ≤ u → Ns u ≤ Ns s
-  N-falls s u h = N-mono J J E row E row i u d i s d (le-refl (J .size))
+  N-falls s u h = N-mono J J early row early row i u d i s d (le-refl (J .size))
       (λ j l p. record { other = p .other; due = p .due; late = ⊎-elim (λ t. inl t) (λ x. inr (omega arith)) (p .late) })
 
   -- what is known at entry k: no s before it speaks, and N from it on is no more than `most`
   pub record Passed (k most : ℕ) : Type 0 where
-    pub entry : Entry k
-    pub from : E i ≤ E k
-    pub below : (j : ℕ) → j < J .size → E j < E k → E j < held
-    pub tried : (j : ℕ) → j < J .size → E i ≤ E j → E j < E k → Ns (E j) < 2 * (d - E j)
-    pub bound : Ns (E k) ≤ most
+    pub entry : k < 65
+    pub reached : early i ≤ at k
+    pub below : (j : ℕ) → j < J .size → early j < at k → early j < held
+    pub tried : (j : ℕ) → j < J .size → early i ≤ early j → early j < at k → Ns (early j) < 2 * (d - early j)
+    pub bound : Ns (at k) ≤ most
 
-  module _ (begun : E i < held) (by : held ≤ d) (fits : d < 65536) where
-    pub passed-start : Passed i 64
+  module _ (within : from < 65) (begun : at from < held) (by : held ≤ d) (fits : d < 65536) where
+    pub passed-start : Passed from 64
     passed-start = record {
-      entry = inl (a .job);
-      from = omega arith;
+      entry = within;
+      reached = omega (arith, a .begins);
       below = λ j l h. omega arith;
-      tried = λ j l h g. absurd (omega arith);
-      bound = omega (arith, N-bound J E row i (E i) d, a .table .rising .few);
+      tried = λ j l h g. absurd (omega (arith, a .begins));
+      bound = omega (arith, N-bound J early row i (at from) d, a .levels .few);
     }
 
     module _ (k most : ℕ) (p : Passed k most) where
-      abbrev silent : ℕ → Type 0
-      silent j = Ns (E j) < 2 * (d - E j)
+      module _ (h : at k < held) where
+        count-here : count 64 (pressed due followers (getD late k 0) i) ≡ Ns (at k)
+        count-here = press-N k (at k) (p .entry) (λ j l. refl)
 
-      module _ (h : E k < held) where
-        count-here : count 64 (pressed due followers (getD late k 0) i) ≡ Ns (E k)
-        count-here = press-N k (E k) (p .entry) (λ j l. refl)
+        step : (k < 64) × (at k < at (k + 1))
+        step = a .levels .steps k (p .entry) (omega arith)
 
-        a-job : k < J .size
-        a-job = ⊎-elim (λ l. l) (λ e. absurd (omega (arith, ap E e, a .table .rising .high 64 (a .table .rising .few) (omega arith)))) (p .entry)
-
-        passed-next : (least : ℕ) → Ns (E k) ≤ least → least < 2 * (d - E k) → Passed (getD next k 0) least
+        passed-next : (least : ℕ) → Ns (at k) ≤ least → least < 2 * (d - at k) → Passed (k + 1) least
         passed-next least g room =
-            let s = a .table .starts k a-job in
-            let back : (j : ℕ) → j < J .size → E j < E (getD next k 0) → E j ≤ E k =
-            λ j l x. ⊎-elim (λ y. y) (λ y. absurd (omega (arith, s .first j l y))) (le-or-lt (E j) (E k)) in
+            let back : (j : ℕ) → j < J .size → early j < at (k + 1) → early j ≤ at k =
+            λ j l x. ⊎-elim (λ y. y) (λ y. absurd (omega (arith, a .levels .next k j (step .0) l y))) (le-or-lt (early j) (at k)) in
             record {
-              entry = s .index;
-              from = omega (arith, p .from, s .later);
+              entry = omega (arith, step .0);
+              reached = omega (arith, p .reached, step .1);
               below = λ j l x. omega (arith, back j l x);
-              tried = λ j l x y. ⊎-elim (λ z. let e : E j ≡ E k = omega (arith, back j l y) in let n : Ns (E j) ≡ Ns (E k) = ap Ns e in omega arith)
-                  (λ z. p .tried j l x z) (le-or-lt (E k) (E j));
-              bound = omega (arith, N-falls (E k) (E (getD next k 0)) (omega (arith, s .later)));
+              tried = λ j l x y. ⊎-elim (λ z. let e : early j ≡ at k = omega (arith, back j l y) in let n : Ns (early j) ≡ Ns (at k) = ap Ns e in omega arith)
+                  (λ z. p .tried j l x z) (le-or-lt (at k) (early j));
+              bound = omega (arith, N-falls (at k) (at (k + 1)) (omega (arith, step .1)));
             }
 
-        pub passed-kept : most < 2 * (d - E k) → Passed (getD next k 0) most
+        pub passed-kept : most < 2 * (d - at k) → Passed (k + 1) most
         passed-kept = passed-next most (p .bound)
 
-        pub passed-counted : (n : ℕ) → n ≡ count 64 (pressed due followers (getD late k 0) i) → n < 2 * (d - E k) → Passed (getD next k 0) n
+        pub passed-counted : (n : ℕ) → n ≡ count 64 (pressed due followers (getD late k 0) i) → n < 2 * (d - at k) → Passed (k + 1) n
         passed-counted n c = passed-next n (omega (arith, count-here))
 
-        pub passed-found : (n : ℕ) → n ≡ count 64 (pressed due followers (getD late k 0) i) → 2 * (d - E k) ≤ n → Pressure J E row i d n
-        passed-found n c full = let e : n ≡ Ns (E k) = c ∙ count-here in record {
-          some = inr (E k, record { job = a .job; from = p .from; till = omega (arith, a .holds); by = omega (arith, a .holds) }, omega arith, sym e);
-          own = λ x. omega (arith, N-falls (E k) (row i) (omega (arith, a .holds)));
-          other = λ j l x y z. ⊎-elim (λ u. omega (arith, N-falls (E k) (E j) u)) (λ u. absurd (omega (arith, p .tried j l x u))) (le-or-lt (E k) (E j));
+        pub passed-found : (n : ℕ) → n ≡ count 64 (pressed due followers (getD late k 0) i) → 2 * (d - at k) ≤ n → Pressure J early row i d n
+        passed-found n c full = let e : n ≡ Ns (at k) = c ∙ count-here in record {
+          some = inr (at k, record { job = a .job; from = p .reached; till = omega (arith, a .holds); by = omega (arith, a .holds) }, omega arith, sym e);
+          own = λ x. omega (arith, N-falls (at k) (row i) (omega (arith, a .holds)));
+          other = λ j l x y z. ⊎-elim (λ u. omega (arith, N-falls (at k) (early j) u)) (λ u. absurd (omega (arith, p .tried j l x u))) (le-or-lt (at k) (early j));
         }
 
-        pub passed-none : (n : ℕ) → n ≡ count 64 (pressed due followers (getD late k 0) i) → n < 2 * (d - held) → Pressure J E row i d 0
-        passed-none n c few = let e : n ≡ Ns (E k) = c ∙ count-here in record {
+        pub passed-none : (n : ℕ) → n ≡ count 64 (pressed due followers (getD late k 0) i) → n < 2 * (d - held) → Pressure J early row i d 0
+        passed-none n c few = let e : n ≡ Ns (at k) = c ∙ count-here in record {
           some = inl refl;
-          own = λ x. absurd (omega (arith, N-falls (E k) (row i) (omega (arith, a .holds)), a .holds));
-          other = λ j l x y z. ⊎-elim (λ u. absurd (omega (arith, N-falls (E k) (E j) u, a .holds))) (λ u. absurd (omega (arith, p .tried j l x u))) (le-or-lt (E k) (E j));
+          own = λ x. absurd (omega (arith, N-falls (at k) (row i) (omega (arith, a .holds)), a .holds));
+          other = λ j l x y z. ⊎-elim (λ u. absurd (omega (arith, N-falls (at k) (early j) u, a .holds))) (λ u. absurd (omega (arith, p .tried j l x u))) (le-or-lt (at k) (early j));
         }
 
-      module _ (h : held ≤ E k) where
+      module _ (h : held ≤ at k) where
         count-own : count 64 (pressed due followers (getD late k 0) i) ≡ Ns held
-        count-own = press-N k held (p .entry) (λ j l. same-leb (E k) held (E j) (λ x. omega arith)
-            (λ x. ⊎-elim (λ y. y) (λ y. absurd (omega (arith, p .below j l y))) (le-or-lt (E k) (E j))))
+        count-own = press-N k held (p .entry) (λ j l. same-leb (at k) held (early j) (λ x. omega arith)
+            (λ x. ⊎-elim (λ y. y) (λ y. absurd (omega (arith, p .below j l y))) (le-or-lt (at k) (early j))))
 
-        at-held : (j : ℕ) → E k ≤ E j → E j ≤ row i → Ns (E j) ≡ Ns held
-        at-held j x y = ap Ns (let e : E j ≡ held = omega (arith, a .holds) in e)
+        at-held : (j : ℕ) → at k ≤ early j → early j ≤ row i → Ns (early j) ≡ Ns held
+        at-held j x y = ap Ns (let e : early j ≡ held = omega (arith, a .holds) in e)
 
-        pub passed-own : (n : ℕ) → n ≡ count 64 (pressed due followers (getD late k 0) i) → 2 * (d - held) ≤ n → Pressure J E row i d n
+        pub passed-own : (n : ℕ) → n ≡ count 64 (pressed due followers (getD late k 0) i) → 2 * (d - held) ≤ n → Pressure J early row i d n
         passed-own n c full = let e : n ≡ Ns held = c ∙ count-own in record {
-          some = inr (held, record { job = a .job; from = omega arith; till = omega (arith, a .holds); by = omega (arith, a .holds) }, omega arith, sym e);
+          some = inr (held, record { job = a .job; from = omega (arith, a .begins); till = omega (arith, a .holds); by = omega (arith, a .holds) }, omega arith, sym e);
           own = λ x. omega (arith, ap Ns (a .holds));
-          other = λ j l x y z. ⊎-elim (λ u. omega (arith, at-held j u y)) (λ u. absurd (omega (arith, p .tried j l x u))) (le-or-lt (E k) (E j));
+          other = λ j l x y z. ⊎-elim (λ u. omega (arith, at-held j u y)) (λ u. absurd (omega (arith, p .tried j l x u))) (le-or-lt (at k) (early j));
         }
 
-        pub passed-over : (n : ℕ) → n ≡ count 64 (pressed due followers (getD late k 0) i) → n < 2 * (d - held) → Pressure J E row i d 0
+        pub passed-over : (n : ℕ) → n ≡ count 64 (pressed due followers (getD late k 0) i) → n < 2 * (d - held) → Pressure J early row i d 0
         passed-over n c few = let e : n ≡ Ns held = c ∙ count-own in record {
           some = inl refl;
           own = λ x. absurd (omega (arith, ap Ns (a .holds), a .holds));
-          other = λ j l x y z. ⊎-elim (λ u. absurd (omega (arith, at-held j u y, a .holds, let q : E j ≡ held = omega (arith, a .holds) in q))) (λ u. absurd (omega (arith, p .tried j l x u))) (le-or-lt (E k) (E j));
+          other = λ j l x y z. ⊎-elim (λ u. absurd (omega (arith, at-held j u y, a .holds, let q : early j ≡ held = omega (arith, a .holds) in q))) (λ u. absurd (omega (arith, p .tried j l x u))) (le-or-lt (at k) (early j));
         }

@@ -34,15 +34,17 @@ pub fn tighten<'a>(
     requires { ⌜ Tightenable size (now start) (now before) (now row) ⌝ }
     ensures { λ r. ⌜ Tightens size (now (start .entry)) (now (before .entry)) (now (row .entry)) (now (row .exit)) r ⌝ }
 {
-    let mut early = [65535usize; 65];
-    let mut order = [0usize; 64];
+    let mut early = [0u16; 64];
+    let mut order = [0u8; 64];
     early::earliest(size, start, before, &mut early, &mut order);
     let mut followers = [0u64; 64];
+    tables::followers(size, before, &mut followers);
+    let mut times = [65535u16; 65];
     let mut late = [0u64; 65];
-    let mut next = [0usize; 65];
-    tables::tables(size, before, &early, &mut followers, &mut late, &mut next);
+    let mut rank = [0u8; 64];
+    tables::levels(size, &early, &mut times, &mut late, &mut rank);
     if follow::follow(size, sets::below(size), &order, &followers, row) {
-        return settled(size, &order, &followers, &early, &late, &next, row);
+        return settled(size, &order, &followers, &times, &late, &rank, row);
     }
     false
 }
@@ -50,18 +52,18 @@ pub fn tighten<'a>(
 // Passes until one moves nothing.
 fn settled<'a>(
     size: usize,
-    order: &'a [usize; 64],
+    order: &'a [u8; 64],
     followers: &'a [u64; 64],
-    early: &'a [usize; 65],
+    times: &'a [u16; 65],
     late: &'a [u64; 65],
-    next: &'a [usize; 65],
+    rank: &'a [u8; 64],
     row: &mut [u16; 64],
 ) -> bool
-    requires { ⌜ (size ≤ 64) × (length (now row) ≡ 64) × ((k : ℕ) → k < size → getD (now order) k 0 < size) × Steps (now early) (now next) × ((i : ℕ) → i < size → getD (now row) i 0 < 65536) × ((J : Jobs) × (J .size ≡ size) × Known J (now followers) (now early) (now late) (now next)) ⌝ }
-    ensures { λ r. ⌜ (length (now (row .exit)) ≡ 64) × ((J : Jobs) → J .size ≡ size → Known J (now (followers .entry)) (now (early .entry)) (now (late .entry)) (now (next .entry)) → Settles J (row-in (now (early .entry))) (now (row .entry)) (now (row .exit)) r) ⌝ }
+    requires { ⌜ (size ≤ 64) × (length (now row) ≡ 64) × ((k : ℕ) → k < size → getD (now order) k 0 < size) × Steps (now times) × ((i : ℕ) → i < size → getD (now rank) i 0 < 65) × ((i : ℕ) → i < size → getD (now row) i 0 < 65536) × ((J : Jobs) × (early : ℕ → ℕ) × (J .size ≡ size) × Known J early (now followers) (now times) (now late) (now rank)) ⌝ }
+    ensures { λ r. ⌜ (length (now (row .exit)) ≡ 64) × ((J : Jobs) (early : ℕ → ℕ) → J .size ≡ size → Known J early (now (followers .entry)) (now (times .entry)) (now (late .entry)) (now (rank .entry)) → Settles J early (now (row .entry)) (now (row .exit)) r) ⌝ }
 {
     loop {
-        match pass(size, order, followers, early, late, next, row) {
+        match pass(size, order, followers, times, late, rank, row) {
             Moved::Jobs(moved) => {
                 if moved == 0 {
                     return true;
@@ -77,15 +79,15 @@ fn settled<'a>(
 // Every d of the row, from the greatest down.
 fn pass<'a>(
     size: usize,
-    order: &'a [usize; 64],
+    order: &'a [u8; 64],
     followers: &'a [u64; 64],
-    early: &'a [usize; 65],
+    times: &'a [u16; 65],
     late: &'a [u64; 65],
-    next: &'a [usize; 65],
+    rank: &'a [u8; 64],
     row: &mut [u16; 64],
 ) -> Moved
-    requires { ⌜ (size ≤ 64) × (length (now row) ≡ 64) × ((k : ℕ) → k < size → getD (now order) k 0 < size) × Steps (now early) (now next) × ((i : ℕ) → i < size → getD (now row) i 0 < 65536) ⌝ }
-    ensures { λ r. ⌜ (length (now (row .exit)) ≡ 64) × ((J : Jobs) → J .size ≡ size → Known J (now (followers .entry)) (now (early .entry)) (now (late .entry)) (now (next .entry)) → Moves J (row-in (now (early .entry))) (now (row .entry)) (now (row .exit)) (Swept J (row-in (now (early .entry))) (row-in (now (row .entry)))) r) ⌝ }
+    requires { ⌜ (size ≤ 64) × (length (now row) ≡ 64) × ((k : ℕ) → k < size → getD (now order) k 0 < size) × Steps (now times) × ((i : ℕ) → i < size → getD (now rank) i 0 < 65) × ((i : ℕ) → i < size → getD (now row) i 0 < 65536) ⌝ }
+    ensures { λ r. ⌜ (length (now (row .exit)) ≡ 64) × ((J : Jobs) (early : ℕ → ℕ) → J .size ≡ size → Known J early (now (followers .entry)) (now (times .entry)) (now (late .entry)) (now (rank .entry)) → Moves J early (now (row .entry)) (now (row .exit)) (Swept J early (row-in (now (row .entry)))) r) ⌝ }
 {
     let mut all: u64 = 0;
     let mut limit: usize = 65536;
@@ -94,7 +96,7 @@ fn pass<'a>(
         if due.jobs == 0 {
             return Moved::Jobs(all);
         }
-        match lower_at(due.d, due.jobs, followers, early, late, next, row) {
+        match lower_at(due.d, due.jobs, followers, times, late, rank, row) {
             Moved::Jobs(moved) => {
                 if moved != 0 {
                     if !follow::follow(size, moved, order, followers, row) {
@@ -142,13 +144,13 @@ fn lower_at<'a>(
     d: usize,
     due: u64,
     followers: &'a [u64; 64],
-    early: &'a [usize; 65],
+    times: &'a [u16; 65],
     late: &'a [u64; 65],
-    next: &'a [usize; 65],
+    rank: &'a [u8; 64],
     row: &mut [u16; 64],
 ) -> Moved
-    requires { ⌜ Steps (now early) (now next) × (length (now row) ≡ 64) × ((j : ℕ) → T (has due j) → getD (now row) j 0 ≤ d) × (d < 65536) ⌝ }
-    ensures { λ r. ⌜ (length (now (row .exit)) ≡ 64) × ((J : Jobs) → Known J (now (followers .entry)) (now (early .entry)) (now (late .entry)) (now (next .entry)) → DueBy (J .size) (row-in (now (row .entry))) d due → Moves J (row-in (now (early .entry))) (now (row .entry)) (now (row .exit)) (AtD J (row-in (now (early .entry))) (row-in (now (row .entry))) d) r) ⌝ }
+    requires { ⌜ Steps (now times) × (length (now row) ≡ 64) × ((j : ℕ) → T (has due j) → (getD (now rank) j 0 < 65) × (getD (now row) j 0 ≤ d)) × (d < 65536) ⌝ }
+    ensures { λ r. ⌜ (length (now (row .exit)) ≡ 64) × ((J : Jobs) (early : ℕ → ℕ) → Known J early (now (followers .entry)) (now (times .entry)) (now (late .entry)) (now (rank .entry)) → DueBy (J .size) (row-in (now (row .entry))) d due → Moves J early (now (row .entry)) (now (row .exit)) (AtD J early (row-in (now (row .entry))) d) r) ⌝ }
 {
     let mut moved: u64 = 0;
     let mut rest = due;
@@ -156,7 +158,8 @@ fn lower_at<'a>(
         let job = sets::first(rest);
         let i = job.0;
         let held = wide(row[i]);
-        let time = rule::lowered(job, held, d, due, followers[i], early, late, next);
+        let from = rank[i] as usize;
+        let time = rule::lowered(job, held, d, due, followers[i], from, times, late);
         row[i] = time as u16;
         if time == 0 {
             return Moved::Shut;
@@ -164,7 +167,7 @@ fn lower_at<'a>(
         if time < held {
             moved = sets::with(moved, job);
         }
-        rest = sets::without(rest, job);
+        rest = sets::rest(rest);
     }
     Moved::Jobs(moved)
 }

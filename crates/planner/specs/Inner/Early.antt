@@ -10,7 +10,6 @@ use Rattle.schedule.specs.Jobs.{Closed, Loopless}
 use Rattle.schedule.specs.Times.{Earliest}
 use Rattle.planner.specs.Sets.{has}
 use Rattle.planner.specs.Told.{jobs-in, row-in}
-use Rattle.planner.specs.Inner.Tables.{Rising}
 
 -- job i is to do, and none that precedes it is
 pub record Free (i before todo : ℕ) : Type 0 where
@@ -31,8 +30,8 @@ pub record Startable (size : ℕ) (start before : List ℕ) : Type 0 where
   pub loopless : Loopless (jobs-in size start before)
   pub held : (a b : ℕ) → T (has (getD before b 0) a) → (a < size) × (b < size)
 
--- the earliest times, entry 64 later than all, and an order of jobs
+-- the earliest times, and an order of jobs
 pub record Begins (size : ℕ) (start before early order : List ℕ) : Type 0 where
   pub earliest : Earliest (jobs-in size start before) (row-in early)
-  pub rising : Rising size early
+  pub low : (i : ℕ) → i < size → getD early i 0 < 65535
   pub jobs : (k : ℕ) → k < size → getD order k 0 < size

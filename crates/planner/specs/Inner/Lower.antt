@@ -17,16 +17,17 @@ use Rattle.planner.specs.declared.tighten.Moved.the-variants.{Jobs as Th
 use Rattle.planner.specs.declared.tighten.Due.{Due}
 use Rattle.planner.specs.Sets.{has}
 use Rattle.planner.specs.Told.{row-in}
-use Rattle.planner.specs.Inner.Tables.{Table}
+use Rattle.planner.specs.Inner.Tables.{Levels}
 
 -- the jobs of the row that are due by d
 abbrev pub DueBy : ℕ → (ℕ → ℕ) → ℕ → ℕ → Type 0
 DueBy size row d due = (j : ℕ) → has due j ≡ (ltb j size && leb (row j) d)
 
 -- job i with its time held, at d
-pub record At (J : Jobs) (row : ℕ → ℕ) (i held d due followers : ℕ) (early late next : List ℕ) : Type 0 where
-  pub table : Table (J .size) early late next
+pub record At (J : Jobs) (early row : ℕ → ℕ) (i held d due followers from : ℕ) (times late : List ℕ) : Type 0 where
+  pub levels : Levels (J .size) early times late
   pub job : i < J .size
+  pub begins : getD times from 0 ≡ early i
   pub holds : row i ≡ held
   pub soon : DueBy (J .size) row d due
   pub follow : (j : ℕ) → has followers j ≡ (ltb j (J .size) && J .before i j)

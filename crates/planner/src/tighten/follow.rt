@@ -16,7 +16,7 @@ ghost use Rattle.planner.specs.Inner.Lower.{Eased, Fits};
 pub fn follow<'a>(
     size: usize,
     changed: u64,
-    order: &'a [usize; 64],
+    order: &'a [u8; 64],
     followers: &'a [u64; 64],
     row: &mut [u16; 64],
 ) -> bool
@@ -27,7 +27,7 @@ pub fn follow<'a>(
     let mut k = size;
     while k > 0 {
         k -= 1;
-        let i = order[k];
+        let i = order[k] as usize;
         let held = row[i];
         let time = capped(held, followers[i] & moved, row);
         row[i] = time;
@@ -57,7 +57,7 @@ fn capped(held: u16, set: u64, row: &[u16; 64]) -> u16
             }
             time = other - 1;
         }
-        rest = sets::without(rest, job);
+        rest = sets::rest(rest);
     }
     time
 }

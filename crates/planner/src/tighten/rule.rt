@@ -1,11 +1,11 @@
 // The rule for one job and one d.
 use crate::sets;
+use crate::times::wide;
 use schedule::JobIndex;
 ghost use Prim.Native.Nat.{ℕ, _<_, _≤_};
 ghost use lib.ListN.{getD};
 ghost use Rattle.schedule.specs.Jobs.{Jobs};
 ghost use Rattle.schedule.specs.Times.{Earliest};
-ghost use Rattle.planner.specs.Told.{row-in};
 ghost use Rattle.planner.specs.Inner.Tables.{Steps};
 ghost use Rattle.planner.specs.Inner.Lower.{At, Pressure, Ruled};
 
@@ -16,18 +16,18 @@ fn pressure<'a>(
     d: usize,
     due: u64,
     followers: u64,
-    early: &'a [usize; 65],
+    from: usize,
+    times: &'a [u16; 65],
     late: &'a [u64; 65],
-    next: &'a [usize; 65],
 ) -> usize
-    requires { ⌜ Steps (now early) (now next) × (job .0 < 64) × (getD (now early) (job .0) 0 < held) × (held ≤ d) × (d < 65536) ⌝ }
-    ensures { λ r. ⌜ (r ≤ 64) × ((J : Jobs) (row : ℕ → ℕ) → At J row (job .0) held d due followers (now (early .entry)) (now (late .entry)) (now (next .entry)) → Pressure J (row-in (now (early .entry))) row (job .0) d r) ⌝ }
+    requires { ⌜ Steps (now times) × (job .0 < 64) × (from < 65) × (getD (now times) from 0 < held) × (held ≤ d) × (d < 65536) ⌝ }
+    ensures { λ r. ⌜ (r ≤ 64) × ((J : Jobs) (early row : ℕ → ℕ) → At J early row (job .0) held d due followers from (now (times .entry)) (now (late .entry)) → Pressure J early row (job .0) d r) ⌝ }
 {
     let least = 2 * (d - held);
     let mut most: usize = 64;
-    let mut k = job.0;
-    while early[k] < held {
-        let room = 2 * (d - early[k]);
+    let mut k = from;
+    while wide(times[k]) < held {
+        let room = 2 * (d - wide(times[k]));
         if most >= room {
             most = sets::pressing(due, followers, late[k], job);
             if most >= room {
@@ -37,7 +37,7 @@ fn pressure<'a>(
                 return 0;
             }
         }
-        k = next[k];
+        k += 1;
     }
     let last = sets::pressing(due, followers, late[k], job);
     if last >= least {
@@ -53,23 +53,23 @@ pub fn lowered<'a>(
     d: usize,
     due: u64,
     followers: u64,
-    early: &'a [usize; 65],
+    from: usize,
+    times: &'a [u16; 65],
     late: &'a [u64; 65],
-    next: &'a [usize; 65],
 ) -> usize
-    requires { ⌜ Steps (now early) (now next) × (job .0 < 64) × (held ≤ d) × (d < 65536) ⌝ }
-    ensures { λ r. ⌜ (r ≤ held) × ((J : Jobs) (row : ℕ → ℕ) → At J row (job .0) held d due followers (now (early .entry)) (now (late .entry)) (now (next .entry)) → Earliest J (row-in (now (early .entry))) → Ruled J (row-in (now (early .entry))) row (job .0) d r) ⌝ }
+    requires { ⌜ Steps (now times) × (job .0 < 64) × (from < 65) × (held ≤ d) × (d < 65536) ⌝ }
+    ensures { λ r. ⌜ (r ≤ held) × ((J : Jobs) (early row : ℕ → ℕ) → At J early row (job .0) held d due followers from (now (times .entry)) (now (late .entry)) → Earliest J early → Ruled J early row (job .0) d r) ⌝ }
 {
-    let i = job.0;
-    if held <= early[i] {
+    let begin = wide(times[from]);
+    if held <= begin {
         return 0;
     }
-    let n = pressure(job, held, d, due, followers, early, late, next);
+    let n = pressure(job, held, d, due, followers, from, times, late);
     let half = (n + 1) / 2;
     if held + half <= d {
         return held;
     }
-    if d <= early[i] + half {
+    if d <= begin + half {
         return 0;
     }
     d - half

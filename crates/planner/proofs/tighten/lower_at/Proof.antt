@@ -13,32 +13,33 @@ use Rattle.schedule.specs.Jobs.{Jobs}
 use Rattle.planner.specs.Told.{row-in}
 use Rattle.planner.specs.Inner.Tables.{Known}
 use Rattle.planner.specs.Inner.Lower.{DueBy, Ruled}
-use Rattle.planner.proofs.Bits.{walk-less, walk-sub}
+use Rattle.planner.proofs.Bits.{rest-walk, walk-less, walk-sub}
 use Rattle.planner.proofs.TightenSink.{Lowering, lowering-start, lowering-moved, lowering-kept, lowering-moves, due-job, stored-low, sunk-none}
 use Rattle.planner.proofs.tighten.lower_at.Statement.{statement}
 use Rattle.planner.proofs.tighten.lower_at.Tie as tie
 
 abbrev Inv-loop : tie.InvT-loop
-Inv-loop d due followers early late next row₀ moved₀ rest₀ row moved rest = (length row ≡ 64) × ((j : ℕ) → T (has rest j) → T (has due j)) × ((j : ℕ) → T (has due j) → getD row j 0 ≤ d) × ((J : Jobs) → Known J followers early late next → DueBy (J .size) (row-in row₀) d due → Lowering J (row-in early) row₀ row d due moved rest)
+Inv-loop d due followers times late rank row₀ moved₀ rest₀ row moved rest = (length row ≡ 64) × ((j : ℕ) → T (has rest j) → T (has due j)) × ((j : ℕ) → T (has due j) → getD row j 0 ≤ d) × ((J : Jobs) (early : ℕ → ℕ) → Known J early followers times late rank → DueBy (J .size) (row-in row₀) d due → Lowering J early row₀ row d due moved rest)
 
 abbrev μ-loop : tie.MeasureT-loop
-μ-loop d due followers early late next row₀ moved₀ rest₀ row moved rest = count 64 (has rest)
+μ-loop d due followers times late rank row₀ moved₀ rest₀ row moved rest = count 64 (has rest)
 
-in-due : (c : tie.After-lowered Inv-loop μ-loop) → T (has (c .before .before .before .before .before .before .before .args .due) (c .before .before .before .before .first .result .0))
-in-due c = c .before .before .before .before .before .before .loop .inv .1 (c .before .before .before .before .first .result .0) (c .before .before .before .before .first .ensures .1)
+in-due : (c : tie.After-lowered Inv-loop μ-loop) → T (has (c .before .before .before .before .before .before .before .before .args .due) (c .before .before .before .before .before .first .result .0))
+in-due c = c .before .before .before .before .before .before .before .loop .inv .1 (c .before .before .before .before .before .first .result .0) (c .before .before .before .before .before .first .ensures .1)
 
 -- what the rule leaves the job looked at
-ruled : (c : tie.After-lowered Inv-loop μ-loop) (J : Jobs) (k : Known J (c .before .before .before .before .before .before .before .args .followers .now) (c .before .before .before .before .before .before .before .args .early .now) (c .before .before .before .before .before .before .before .args .late .now) (c .before .before .before .before .before .before .before .args .next .now)) → DueBy (J .size) (row-in (c .before .before .before .before .before .before .before .args .row .now)) (c .before .before .before .before .before .before .before .args .d) (c .before .before .before .before .before .before .before .args .due) →
-    Ruled J (row-in (c .before .before .before .before .before .before .before .args .early .now)) (row-in (c .before .before .before .before .before .before .loop .row)) (c .before .before .before .before .first .result .0) (c .before .before .before .before .before .before .before .args .d) (c .lowered .result)
-ruled c J k s =
-    let q = c .before .before .before .before .before .before .loop .inv .3 J k s in
-    let i = c .before .before .before .before .first .result .0 in
-    let l = due-job (J .size) (row-in (c .before .before .before .before .before .before .loop .row)) (c .before .before .before .before .before .before .before .args .d) (c .before .before .before .before .before .before .before .args .due) (q .soon) i (in-due c) .0 in
-    c .lowered .ensures .1 J (row-in (c .before .before .before .before .before .before .loop .row))
-    (record { table = k .table; job = l; holds = sym (c .before .before .wide .ensures .0); soon = q .soon; follow = λ j. k .follow i j l }) (k .earliest)
+ruled : (c : tie.After-lowered Inv-loop μ-loop) (J : Jobs) (early : ℕ → ℕ) → Known J early (c .before .before .before .before .before .before .before .before .args .followers .now) (c .before .before .before .before .before .before .before .before .args .times .now) (c .before .before .before .before .before .before .before .before .args .late .now) (c .before .before .before .before .before .before .before .before .args .rank .now) →
+    DueBy (J .size) (row-in (c .before .before .before .before .before .before .before .before .args .row .now)) (c .before .before .before .before .before .before .before .before .args .d) (c .before .before .before .before .before .before .before .before .args .due) → Ruled J early (row-in (c .before .before .before .before .before .before .before .loop .row)) (c .before .before .before .before .before .first .result .0) (c .before .before .before .before .before .before .before .before .args .d) (c .lowered .result)
+ruled c J early k s =
+    let p = c .before .before .before .before .before .before .before in
+    let q = p .loop .inv .3 J early k s in
+    let i = c .before .before .before .before .before .first .result .0 in
+    let l = due-job (J .size) (row-in (p .loop .row)) (p .before .args .d) (p .before .args .due) (q .soon) i (in-due c) .0 in
+    c .lowered .ensures .1 J early (row-in (p .loop .row))
+    (record { levels = k .levels; job = l; begins = k .ranks i l .1; holds = sym (c .before .before .before .wide .ensures .0); soon = q .soon; follow = λ j. k .follow i j l }) (k .earliest)
 
 loop-holds : tie.Need-loop-holds Inv-loop μ-loop
-loop-holds c = (c .pre .1, (λ j t. t), c .pre .2, (λ J k s. lowering-start J (row-in (c .args .early .now)) (c .args .row .now) (c .args .d) (c .args .due) s))
+loop-holds c = (c .pre .1, (λ j t. t), (λ j t. c .pre .2 j t .1), (λ J early k s. lowering-start J early (c .args .row .now) (c .args .d) (c .args .due) s))
 
 first-requires : tie.Need-first-requires Inv-loop μ-loop
 first-requires c κs = search needs
@@ -52,6 +53,15 @@ element-copy-out-wide c = search needs
 wide-requires : tie.Need-wide-requires Inv-loop μ-loop
 wide-requires c κs = search needs
 
+element-copy-out-from : tie.Need-element-copy-out-from Inv-loop μ-loop
+element-copy-out-from c = search needs
+
+cast-from : tie.Need-cast-from Inv-loop μ-loop
+cast-from c =
+    let p = c .before .before .before .before .before in
+    let f = c .before .before .before .first in
+    omega (arith, p .before .pre .2 (f .result .0) (p .loop .inv .1 (f .result .0) (f .ensures .1)) .0)
+
 mul-lowered : tie.Need-mul-lowered Inv-loop μ-loop
 mul-lowered c = search needs
 
@@ -60,12 +70,13 @@ element-copy-out-lowered c = search needs
 
 lowered-requires : tie.Need-lowered-requires Inv-loop μ-loop
 lowered-requires c κs =
-    let p = c .before .before .before .before .before in
-    let f = c .before .before .before .first in
-    (p .before .pre .0, f .ensures .0, omega (arith, c .before .wide .ensures .0, p .loop .inv .2 (f .result .0) (p .loop .inv .1 (f .result .0) (f .ensures .1))), p .before .pre .3)
+    let p = c .before .before .before .before .before .before in
+    let f = c .before .before .before .before .first in
+    let due = p .loop .inv .1 (f .result .0) (f .ensures .1) in
+    (p .before .pre .0, f .ensures .0, p .before .pre .2 (f .result .0) due .0, omega (arith, c .before .before .wide .ensures .0, p .loop .inv .2 (f .result .0) due), p .before .pre .3)
 
 cast-row : tie.Need-cast-row Inv-loop μ-loop
-cast-row c = omega (arith, c .lowered .ensures .0, c .before .before .wide .ensures .1)
+cast-row c = omega (arith, c .lowered .ensures .0, c .before .before .before .wide .ensures .1)
 
 mul-row : tie.Need-mul-row Inv-loop μ-loop
 mul-row c = search needs
@@ -75,43 +86,44 @@ element-write-row c = search needs
 
 returns : tie.Need-returns Inv-loop μ-loop
 returns c =
-    let p = c .before .before .before .before .before .before .before in
-    let i = c .before .before .before .before .before .first .result .0 in (
+    let p = c .before .before .before .before .before .before .before .before in
+    let i = c .before .before .before .before .before .before .first .result .0 in (
       simp length-set (p .loop .inv .0),
-      (λ J k s.
-          let q = p .loop .inv .3 J k s in
-          sunk-none J (row-in (p .before .args .early .now)) (p .before .args .row .now) (p .loop .row) i (c .before .lowered .result) (k .table .rising .few) (p .loop .inv .0) (q .sunk)
-          (due-job (J .size) (row-in (p .loop .row)) (p .before .args .d) (p .before .args .due) (q .soon) i (in-due (c .before)) .0) (ruled (c .before) J k s .eased) (c .if1 .taken)),
+      (λ J early k s.
+          let q = p .loop .inv .3 J early k s in
+          sunk-none J early (p .before .args .row .now) (p .loop .row) i (c .before .lowered .result) (k .levels .few) (p .loop .inv .0) (q .sunk)
+          (due-job (J .size) (row-in (p .loop .row)) (p .before .args .d) (p .before .args .due) (q .soon) i (in-due (c .before)) .0) (ruled (c .before) J early k s .eased) (c .if1 .taken)),
     )
 
 with-requires : tie.Need-with-requires Inv-loop μ-loop
 with-requires c κs = search needs
 
-without-requires : tie.Need-without-requires Inv-loop μ-loop
-without-requires c κs = search needs
+rest-requires : tie.Need-rest-requires Inv-loop μ-loop
+rest-requires c κs = search needs
 
 loop-less : tie.Need-loop-less Inv-loop μ-loop
 loop-less c =
-    let f = c .before .before .before .before .before .before .before .first in
-    walk-less (c .before .before .before .before .before .before .before .before .before .loop .rest) (c .without .result) (f .result .0) (c .without .ensures) (f .ensures .0) (f .ensures .1)
+    let f = c .before .before .before .before .before .before .before .before .first in
+    walk-less (c .before .before .before .before .before .before .before .before .before .before .loop .rest) (c .rest .result) (f .result .0) (rest-walk _ _ _ (f .ensures .3) (c .rest .ensures)) (f .ensures .0) (f .ensures .1)
 
 loop-again : tie.Need-loop-again Inv-loop μ-loop
 loop-again c =
     let o = c .before .before .before in
-    let p = c .before .before .before .before .before .before .before .before .before in
+    let p = c .before .before .before .before .before .before .before .before .before .before in
     let a = p .before .args in
-    let i = c .before .before .before .before .before .before .before .first .result .0 in
-    let h = o .before .before .wide .ensures .0 in
-    let w = c .without .ensures in
+    let f = c .before .before .before .before .before .before .before .before .first in
+    let i = f .result .0 in
+    let h = o .before .before .before .wide .ensures .0 in
+    let w = rest-walk (p .loop .rest) (c .rest .result) i (f .ensures .3) (c .rest .ensures) in
     let low = p .loop .inv .2 i (in-due o) in (
       simp length-set (p .loop .inv .0),
-      (λ j t. p .loop .inv .1 j (walk-sub (p .loop .rest) (c .without .result) i w j t)),
-      (λ j t. stored-low (p .loop .row) i (o .lowered .result) (a .d) (omega (arith, p .loop .inv .0, c .before .before .before .before .before .before .before .first .ensures .0)) (omega (arith, o .lowered .ensures .0, h, low)) j (p .loop .inv .2 j t)),
-      (λ J k s. ⊎-elim
-          (λ x. rw (x .2) (lowering-moved J (row-in (a .early .now)) (a .row .now) (p .loop .row) (a .d) (a .due) (p .loop .moved) (p .loop .rest) (k .table .rising .few) (p .loop .inv .0) (p .loop .inv .3 J k s)
-          i (c .without .result) (o .lowered .result) (in-due o) w (ruled o J k s) (c .before .before .if1 .left) (x .1 .result) (x .1 .ensures) (omega (arith, h, x .0 .taken))))
-          (λ x. rw (x .1) (lowering-kept J (row-in (a .early .now)) (a .row .now) (p .loop .row) (a .d) (a .due) (p .loop .moved) (p .loop .rest) (k .table .rising .few) (p .loop .inv .0) (p .loop .inv .3 J k s)
-          i (c .without .result) (o .lowered .result) (in-due o) w (ruled o J k s) (c .before .before .if1 .left) (omega (arith, h, x .0 .left))))
+      (λ j t. p .loop .inv .1 j (walk-sub (p .loop .rest) (c .rest .result) i w j t)),
+      (λ j t. stored-low (p .loop .row) i (o .lowered .result) (a .d) (omega (arith, p .loop .inv .0, f .ensures .0)) (omega (arith, o .lowered .ensures .0, h, low)) j (p .loop .inv .2 j t)),
+      (λ J early k s. ⊎-elim
+          (λ x. rw (x .2) (lowering-moved J early (a .row .now) (p .loop .row) (a .d) (a .due) (p .loop .moved) (p .loop .rest) (k .levels .few) (p .loop .inv .0) (p .loop .inv .3 J early k s)
+          i (c .rest .result) (o .lowered .result) (in-due o) w (ruled o J early k s) (c .before .before .if1 .left) (x .1 .result) (x .1 .ensures) (omega (arith, h, x .0 .taken))))
+          (λ x. rw (x .1) (lowering-kept J early (a .row .now) (p .loop .row) (a .d) (a .due) (p .loop .moved) (p .loop .rest) (k .levels .few) (p .loop .inv .0) (p .loop .inv .3 J early k s)
+          i (c .rest .result) (o .lowered .result) (in-due o) w (ruled o J early k s) (c .before .before .if1 .left) (omega (arith, h, x .0 .left))))
           (c .before .if2 .came)),
     )
 
@@ -119,7 +131,7 @@ returns-2 : tie.Need-returns-2 Inv-loop μ-loop
 returns-2 c =
     let p = c .before in
     let a = p .before .args in
-    (p .loop .inv .0, (λ J k s. lowering-moves J (row-in (a .early .now)) (a .row .now) (p .loop .row) (a .d) (a .due) (p .loop .moved) (p .loop .rest) (k .table .rising .few) (p .loop .inv .0) (p .loop .inv .3 J k s) s (c .loop-test .left)))
+    (p .loop .inv .0, (λ J early k s. lowering-moves J early (a .row .now) (p .loop .row) (a .d) (a .due) (p .loop .moved) (p .loop .rest) (k .levels .few) (p .loop .inv .0) (p .loop .inv .3 J early k s) s (c .loop-test .left)))
 
 pub lower-at-spec : {M : Type 1} → statement M
 lower-at-spec =
@@ -132,6 +144,8 @@ lower-at-spec =
     mul-wide
     element-copy-out-wide
     wide-requires
+    element-copy-out-from
+    cast-from
     mul-lowered
     element-copy-out-lowered
     lowered-requires
@@ -140,7 +154,7 @@ lower-at-spec =
     element-write-row
     returns
     with-requires
-    without-requires
+    rest-requires
     loop-less
     loop-again
     returns-2)

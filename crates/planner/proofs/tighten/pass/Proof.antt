@@ -12,28 +12,28 @@ use Rattle.planner.specs.declared.tighten.Moved.the-variants.{Jobs as Th
 use Rattle.planner.specs.Told.{row-in}
 use Rattle.planner.specs.Inner.Tables.{Known}
 use Rattle.planner.specs.Inner.Lower.{DueBelow, Moves, AtD}
-use Rattle.planner.proofs.TightenDue.{due-by}
+use Rattle.planner.proofs.TightenDue.{due-by, below-job}
 use Rattle.planner.proofs.TightenSink.{Passing, passing-start, passing-still, passing-moved, passing-moves, none-join, or-some}
 use Rattle.planner.proofs.tighten.pass.Statement.{statement}
 use Rattle.planner.proofs.tighten.pass.Tie as tie
 
 abbrev Inv-loop : tie.InvT-loop
-Inv-loop size order followers early late next row₀ all₀ limit₀ row all limit = (length row ≡ 64) × (limit ≤ 65536) × ((J : Jobs) → J .size ≡ size → Known J followers early late next → Passing J (row-in early) row₀ row all limit)
+Inv-loop size order followers times late rank row₀ all₀ limit₀ row all limit = (length row ≡ 64) × (limit ≤ 65536) × ((J : Jobs) (early : ℕ → ℕ) → J .size ≡ size → Known J early followers times late rank → Passing J early row₀ row all limit)
 
 abbrev μ-loop : tie.MeasureT-loop
-μ-loop size order followers early late next row₀ all₀ limit₀ row all limit = limit
+μ-loop size order followers times late rank row₀ all₀ limit₀ row all limit = limit
 
 -- what moved at this d
-moves : (c : tie.After-known-told Inv-loop μ-loop) (J : Jobs) → J .size ≡ c .before .before .before .before .before .before .before .before .before .before .args .size → Known J (c .before .before .before .before .before .before .before .before .before .before .args .followers .now) (c .before .before .before .before .before .before .before .before .before .before .args .early .now) (c .before .before .before .before .before .before .before .before .before .before .args .late .now) (c .before .before .before .before .before .before .before .before .before .before .args .next .now) →
-    Moves J (row-in (c .before .before .before .before .before .before .before .before .before .before .args .early .now)) (c .before .before .before .before .before .before .before .before .before .loop .row) (c .before .before .before .lower-at .last .1 .1 .1 .1 .1 .1 .0) (AtD J (row-in (c .before .before .before .before .before .before .before .before .before .before .args .early .now)) (row-in (c .before .before .before .before .before .before .before .before .before .loop .row)) (c .before .before .before .before .before .before .before .due-below .result .d)) (Those (c .before .moved .given .0 .0))
-moves c J e k =
+moves : (c : tie.After-known-told Inv-loop μ-loop) (J : Jobs) (early : ℕ → ℕ) → J .size ≡ c .before .before .before .before .before .before .before .before .before .before .args .size → Known J early (c .before .before .before .before .before .before .before .before .before .before .args .followers .now) (c .before .before .before .before .before .before .before .before .before .before .args .times .now) (c .before .before .before .before .before .before .before .before .before .before .args .late .now) (c .before .before .before .before .before .before .before .before .before .before .args .rank .now) →
+    Moves J early (c .before .before .before .before .before .before .before .before .before .loop .row) (c .before .before .before .lower-at .last .1 .1 .1 .1 .1 .1 .0) (AtD J early (row-in (c .before .before .before .before .before .before .before .before .before .loop .row)) (c .before .before .before .before .before .before .before .due-below .result .d)) (Those (c .before .moved .given .0 .0))
+moves c J early e k =
     let p = c .before .before .before .before .before .before .before .before .before in
     let due = c .before .before .before .before .before .before .before .due-below in
-    subst (λ (r : Moved). Moves J (row-in (c .before .before .before .before .before .before .before .before .before .before .args .early .now)) (p .loop .row) (c .before .before .before .lower-at .last .1 .1 .1 .1 .1 .1 .0) (AtD J (row-in (c .before .before .before .before .before .before .before .before .before .before .args .early .now)) (row-in (p .loop .row)) (due .result .d)) r) (c .before .moved .given .1)
-    (c .before .before .before .lower-at .ensures .1 J k (due-by (p .loop .limit) (J .size) (p .loop .row) (due .result) (subst (λ (n : ℕ). DueBelow (p .loop .limit) n (p .loop .row) (due .result)) (sym e) (due .ensures)) (c .before .before .before .before .before .if1 .left)))
+    subst (λ (r : Moved). Moves J early (p .loop .row) (c .before .before .before .lower-at .last .1 .1 .1 .1 .1 .1 .0) (AtD J early (row-in (p .loop .row)) (due .result .d)) r) (c .before .moved .given .1)
+    (c .before .before .before .lower-at .ensures .1 J early k (due-by (p .loop .limit) (J .size) (p .loop .row) (due .result) (subst (λ (n : ℕ). DueBelow (p .loop .limit) n (p .loop .row) (due .result)) (sym e) (due .ensures)) (c .before .before .before .before .before .if1 .left)))
 
 loop-holds : tie.Need-loop-holds Inv-loop μ-loop
-loop-holds c = (c .pre .1, search needs, (λ J e k. passing-start J (row-in (c .args .early .now)) (c .args .row .now) 65536 (λ i l. c .pre .4 i (omega (arith, e)))))
+loop-holds c = (c .pre .1, search needs, (λ J early e k. passing-start J early (c .args .row .now) 65536 (λ i l. c .pre .5 i (omega (arith, e)))))
 
 due-below-requires : tie.Need-due-below-requires Inv-loop μ-loop
 due-below-requires c κs = search needs
@@ -43,13 +43,13 @@ returns c =
     let p = c .before .before .before .before in
     let a = p .before .args in
     let due = c .before .before .due-below in
-    (p .loop .inv .0, (λ J e k. passing-moves J (row-in (a .early .now)) (a .row .now) (p .loop .row) (p .loop .all) (p .loop .limit) (p .loop .inv .2 J e k) (due .result) (subst (λ (n : ℕ). DueBelow (p .loop .limit) n (p .loop .row) (due .result)) (sym e) (due .ensures)) (c .if1 .taken)))
+    (p .loop .inv .0, (λ J early e k. passing-moves J early (a .row .now) (p .loop .row) (p .loop .all) (p .loop .limit) (p .loop .inv .2 J early e k) (due .result) (subst (λ (n : ℕ). DueBelow (p .loop .limit) n (p .loop .row) (due .result)) (sym e) (due .ensures)) (c .if1 .taken)))
 
 lower-at-requires : tie.Need-lower-at-requires Inv-loop μ-loop
 lower-at-requires c κs =
     let p = c .before .before .before .before .before in
     let due = c .before .before .before .due-below in
-    (p .before .pre .3, p .loop .inv .0, due .ensures .top, omega (arith, due .ensures .some (c .before .if1 .left), p .loop .inv .1))
+    (p .before .pre .3, p .loop .inv .0, (λ j t. (p .before .pre .4 j (below-job (p .loop .limit) (p .before .args .size) (p .loop .row) (due .result) (due .ensures) j t), due .ensures .top j t)), omega (arith, due .ensures .some (c .before .if1 .left), p .loop .inv .1))
 
 enum-known-moved : tie.Need-enum-known-moved Inv-loop μ-loop
 enum-known-moved c = search needs
@@ -63,8 +63,8 @@ returns-2 c =
     let a = p .before .args in
     let o = c .before .before .before .before in (
       c .before .follow .ensures .0,
-      (λ J e k. none-join J (row-in (a .early .now)) (a .row .now) (p .loop .row) (p .loop .row) (p .loop .inv .2 J e k .sunk)
-          (none-join J (row-in (a .early .now)) (p .loop .row) _ (p .loop .row) (moves o J e k .0) (c .before .follow .ensures .1 J (row-in (a .early .now)) e (k .follow) (k .earliest .raised) .none (not-true _ (c .if3 .taken))))),
+      (λ J early e k. none-join J early (a .row .now) (p .loop .row) (p .loop .row) (p .loop .inv .2 J early e k .sunk)
+          (none-join J early (p .loop .row) _ (p .loop .row) (moves o J early e k .0) (c .before .follow .ensures .1 J early e (k .follow) (k .earliest .raised) .none (not-true _ (c .if3 .taken))))),
     )
 
 enum-told : tie.Need-enum-told Inv-loop μ-loop
@@ -78,9 +78,9 @@ returns-3 c =
     let low = o .lower-at .last .1 .1 .1 .1 .1 .1 .0 in
     let due = c .before .before .before .before .before .before .due-below in (
       o .lower-at .ensures .0,
-      (λ J e k. none-join J (row-in (a .early .now)) (a .row .now) (p .loop .row) (p .loop .row) (p .loop .inv .2 J e k .sunk)
-          (subst (λ (r : Moved). Moves J (row-in (a .early .now)) (p .loop .row) low (AtD J (row-in (a .early .now)) (row-in (p .loop .row)) (due .result .d)) r) (c .enum-told .given .1)
-          (o .lower-at .ensures .1 J k (due-by (p .loop .limit) (J .size) (p .loop .row) (due .result) (subst (λ (n : ℕ). DueBelow (p .loop .limit) n (p .loop .row) (due .result)) (sym e) (due .ensures)) (c .before .before .before .before .if1 .left))))),
+      (λ J early e k. none-join J early (a .row .now) (p .loop .row) (p .loop .row) (p .loop .inv .2 J early e k .sunk)
+          (subst (λ (r : Moved). Moves J early (p .loop .row) low (AtD J early (row-in (p .loop .row)) (due .result .d)) r) (c .enum-told .given .1)
+          (o .lower-at .ensures .1 J early k (due-by (p .loop .limit) (J .size) (p .loop .row) (due .result) (subst (λ (n : ℕ). DueBelow (p .loop .limit) n (p .loop .row) (due .result)) (sym e) (due .ensures)) (c .before .before .before .before .if1 .left))))),
     )
 
 loop-less : tie.Need-loop-less Inv-loop μ-loop
@@ -94,10 +94,10 @@ loop-again c =
     let due = c .before .before .before .before .before .before .before .before .before .before .before .due-below in (
       c .before .follow .ensures .0,
       omega (arith, due .ensures .some (c .before .before .before .before .before .before .before .before .before .if1 .left), p .loop .inv .1),
-      (λ J e k.
-          let m = moves o J e k in
-          passing-moved J (row-in (a .early .now)) (a .row .now) (p .loop .row) (p .loop .all) (p .loop .limit) (p .loop .inv .2 J e k) (due .result) (subst (λ (n : ℕ). DueBelow (p .loop .limit) n (p .loop .row) (due .result)) (sym e) (due .ensures)) _ _ _ (or-some (p .loop .all) (o .before .moved .given .0 .0) (c .before .before .before .if2 .taken))
-          (m .0) (m .2 (c .before .before .before .if2 .taken)) (c .before .follow .ensures .1 J (row-in (a .early .now)) e (k .follow) (k .earliest .raised) .sunk (not-false _ (c .if3 .left)))),
+      (λ J early e k.
+          let m = moves o J early e k in
+          passing-moved J early (a .row .now) (p .loop .row) (p .loop .all) (p .loop .limit) (p .loop .inv .2 J early e k) (due .result) (subst (λ (n : ℕ). DueBelow (p .loop .limit) n (p .loop .row) (due .result)) (sym e) (due .ensures)) _ _ _ (or-some (p .loop .all) (o .before .moved .given .0 .0) (c .before .before .before .if2 .taken))
+          (m .0) (m .2 (c .before .before .before .if2 .taken)) (c .before .follow .ensures .1 J early e (k .follow) (k .earliest .raised) .sunk (not-false _ (c .if3 .left)))),
     )
 
 loop-less-2 : tie.Need-loop-less-2 Inv-loop μ-loop
@@ -110,9 +110,9 @@ loop-again-2 c =
     let due = c .before .before .before .before .before .before .before .before .due-below in (
       c .before .before .before .before .lower-at .ensures .0,
       omega (arith, due .ensures .some (c .before .before .before .before .before .before .if1 .left), p .loop .inv .1),
-      (λ J e k.
-          let m = moves (c .before) J e k .1 (c .if2 .left) in
-          passing-still J (row-in (a .early .now)) (a .row .now) (p .loop .row) (p .loop .all) (p .loop .limit) (p .loop .inv .2 J e k) (due .result) (subst (λ (n : ℕ). DueBelow (p .loop .limit) n (p .loop .row) (due .result)) (sym e) (due .ensures)) _ (m .0) (m .1)),
+      (λ J early e k.
+          let m = moves (c .before) J early e k .1 (c .if2 .left) in
+          passing-still J early (a .row .now) (p .loop .row) (p .loop .all) (p .loop .limit) (p .loop .inv .2 J early e k) (due .result) (subst (λ (n : ℕ). DueBelow (p .loop .limit) n (p .loop .row) (due .result)) (sym e) (due .ensures)) _ (m .0) (m .1)),
     )
 
 pub pass-spec : {M : Type 1} → statement M

@@ -19,25 +19,25 @@ use Rattle.planner.proofs.tighten.settled.Statement.{statement}
 use Rattle.planner.proofs.tighten.settled.Tie as tie
 
 abbrev Inv-loop : tie.InvT-loop
-Inv-loop size order followers early late next row₀ row = (length row ≡ 64) × ((i : ℕ) → i < size → getD row i 0 < 65536) × ((J : Jobs) → J .size ≡ size → Known J followers early late next → Sunk J (row-in early) row₀ row)
+Inv-loop size order followers times late rank row₀ row = (length row ≡ 64) × ((i : ℕ) → i < size → getD row i 0 < 65536) × ((J : Jobs) (early : ℕ → ℕ) → J .size ≡ size → Known J early followers times late rank → Sunk J early row₀ row)
 
 abbrev μ-loop : tie.MeasureT-loop
-μ-loop size order followers early late next row₀ row = sum size (row-in row)
+μ-loop size order followers times late rank row₀ row = sum size (row-in row)
 
 -- what the pass moved
-moves : (c : tie.After-known-told Inv-loop μ-loop) (J : Jobs) → J .size ≡ c .before .before .before .before .before .before .args .size → Known J (c .before .before .before .before .before .before .args .followers .now) (c .before .before .before .before .before .before .args .early .now) (c .before .before .before .before .before .before .args .late .now) (c .before .before .before .before .before .before .args .next .now) →
-    Moves J (row-in (c .before .before .before .before .before .before .args .early .now)) (c .before .before .before .before .before .loop .row) (c .before .before .before .pass .last .1 .1 .1 .1 .1 .1 .0) (Swept J (row-in (c .before .before .before .before .before .before .args .early .now)) (row-in (c .before .before .before .before .before .loop .row))) (Those (c .before .moved .given .0 .0))
-moves c J e k =
-    subst (λ (r : Moved). Moves J (row-in (c .before .before .before .before .before .before .args .early .now)) (c .before .before .before .before .before .loop .row) (c .before .before .before .pass .last .1 .1 .1 .1 .1 .1 .0) (Swept J (row-in (c .before .before .before .before .before .before .args .early .now)) (row-in (c .before .before .before .before .before .loop .row))) r) (c .before .moved .given .1)
-    (c .before .before .before .pass .ensures .1 J e k)
+moves : (c : tie.After-known-told Inv-loop μ-loop) (J : Jobs) (early : ℕ → ℕ) → J .size ≡ c .before .before .before .before .before .before .args .size → Known J early (c .before .before .before .before .before .before .args .followers .now) (c .before .before .before .before .before .before .args .times .now) (c .before .before .before .before .before .before .args .late .now) (c .before .before .before .before .before .before .args .rank .now) →
+    Moves J early (c .before .before .before .before .before .loop .row) (c .before .before .before .pass .last .1 .1 .1 .1 .1 .1 .0) (Swept J early (row-in (c .before .before .before .before .before .loop .row))) (Those (c .before .moved .given .0 .0))
+moves c J early e k =
+    subst (λ (r : Moved). Moves J early (c .before .before .before .before .before .loop .row) (c .before .before .before .pass .last .1 .1 .1 .1 .1 .1 .0) (Swept J early (row-in (c .before .before .before .before .before .loop .row))) r) (c .before .moved .given .1)
+    (c .before .before .before .pass .ensures .1 J early e k)
 
 loop-holds : tie.Need-loop-holds Inv-loop μ-loop
-loop-holds c = (c .pre .1, c .pre .4, (λ J e k. sunk-same J (row-in (c .args .early .now)) (c .args .row .now)))
+loop-holds c = (c .pre .1, c .pre .5, (λ J early e k. sunk-same J early (c .args .row .now)))
 
 pass-requires : tie.Need-pass-requires Inv-loop μ-loop
 pass-requires c κs =
     let p = c .before in
-    (p .before .pre .0, p .loop .inv .0, p .before .pre .2, p .before .pre .3, p .loop .inv .1)
+    (p .before .pre .0, p .loop .inv .0, p .before .pre .2, p .before .pre .3, p .before .pre .4, p .loop .inv .1)
 
 enum-known-moved : tie.Need-enum-known-moved Inv-loop μ-loop
 enum-known-moved c = search needs
@@ -48,12 +48,12 @@ returns c =
     let a = p .before .args in
     let low = c .before .before .before .before .pass .last .1 .1 .1 .1 .1 .1 .0 in (
       c .before .before .before .before .pass .ensures .0,
-      (λ J e k.
-          let m = moves (c .before) J e k in
+      (λ J early e k.
+          let m = moves (c .before) J early e k in
           let still = m .1 (c .if1 .taken) in
           record {
-            sunk = λ b. sunk-join J (row-in (a .early .now)) (a .row .now) (p .loop .row) low (p .loop .inv .2 J e k) (m .0);
-            swept = λ b. subst (λ (x : List ℕ). Swept J (row-in (a .early .now)) (row-in x)) (sym (still .0)) (still .1);
+            sunk = λ b. sunk-join J early (a .row .now) (p .loop .row) low (p .loop .inv .2 J early e k) (m .0);
+            swept = λ b. subst (λ (x : List ℕ). Swept J early (row-in x)) (sym (still .0)) (still .1);
             none = λ b. absurd (subst T b tt);
           }),
     )
@@ -61,19 +61,19 @@ returns c =
 loop-less : tie.Need-loop-less Inv-loop μ-loop
 loop-less c =
     let p = c .before .before .before .before .before .before in
-    let j = p .before .pre .5 in
-    let m = moves (c .before) (j .0) (j .1) (j .2) in
+    let j = p .before .pre .6 in
+    let m = moves (c .before) (j .0) (j .1) (j .2) (j .3) in
     let f = m .2 (c .if1 .left) in
-    sum-less (p .before .args .size) (row-in (c .before .before .before .before .pass .last .1 .1 .1 .1 .1 .1 .0)) (row-in (p .loop .row)) (f .0) (omega (arith, f .1, j .1)) (λ i l. m .0 .bound .beneath i (omega (arith, j .1))) (f .2)
+    sum-less (p .before .args .size) (row-in (c .before .before .before .before .pass .last .1 .1 .1 .1 .1 .1 .0)) (row-in (p .loop .row)) (f .0) (omega (arith, f .1, j .2)) (λ i l. m .0 .bound .beneath i (omega (arith, j .2))) (f .2)
 
 loop-again : tie.Need-loop-again Inv-loop μ-loop
 loop-again c =
     let p = c .before .before .before .before .before .before in
     let a = p .before .args in
-    let j = p .before .pre .5 in (
+    let j = p .before .pre .6 in (
       c .before .before .before .before .pass .ensures .0,
-      (λ i l. omega (arith, p .loop .inv .1 i l, moves (c .before) (j .0) (j .1) (j .2) .0 .bound .beneath i (omega (arith, j .1)))),
-      (λ J e k. sunk-join J (row-in (a .early .now)) (a .row .now) (p .loop .row) (c .before .before .before .before .pass .last .1 .1 .1 .1 .1 .1 .0) (p .loop .inv .2 J e k) (moves (c .before) J e k .0)),
+      (λ i l. omega (arith, p .loop .inv .1 i l, moves (c .before) (j .0) (j .1) (j .2) (j .3) .0 .bound .beneath i (omega (arith, j .2)))),
+      (λ J early e k. sunk-join J early (a .row .now) (p .loop .row) (c .before .before .before .before .pass .last .1 .1 .1 .1 .1 .1 .0) (p .loop .inv .2 J early e k) (moves (c .before) J early e k .0)),
     )
 
 enum-told : tie.Need-enum-told Inv-loop μ-loop
@@ -85,11 +85,11 @@ returns-2 c =
     let a = p .before .args in
     let low = c .before .before .pass .last .1 .1 .1 .1 .1 .1 .0 in (
       c .before .before .pass .ensures .0,
-      (λ J e k. record {
+      (λ J early e k. record {
         sunk = λ b. absurd (subst T (sym b) tt);
         swept = λ b. absurd (subst T (sym b) tt);
-        none = λ b. none-join J (row-in (a .early .now)) (a .row .now) (p .loop .row) (p .loop .row) (p .loop .inv .2 J e k)
-            (subst (λ (r : Moved). Moves J (row-in (a .early .now)) (p .loop .row) low (Swept J (row-in (a .early .now)) (row-in (p .loop .row))) r) (c .enum-told .given .1) (c .before .before .pass .ensures .1 J e k));
+        none = λ b. none-join J early (a .row .now) (p .loop .row) (p .loop .row) (p .loop .inv .2 J early e k)
+            (subst (λ (r : Moved). Moves J early (p .loop .row) low (Swept J early (row-in (p .loop .row))) r) (c .enum-told .given .1) (c .before .before .pass .ensures .1 J early e k));
       }),
     )
 

@@ -1,7 +1,7 @@
 -- `planner::tighten::tighten` meets its contract.
 -- Assumes nothing.
-use mathlib.Core.Path.{refl, sym, subst}
-use Prim.Native.Nat.{ℕ, _<_}
+use mathlib.Core.Path.{refl}
+use Prim.Native.Nat.{ℕ}
 use native.Mathlib.Omega.{arith}
 use borrow.Author.Needs.{needs}
 use lib.ListN.{getD-replicate}
@@ -13,54 +13,61 @@ use Rattle.planner.proofs.TightenSink.{tightens-settled, tightens-none}
 use Rattle.planner.proofs.tighten.tighten.Statement.{statement}
 use Rattle.planner.proofs.tighten.tighten.Tie as tie
 
--- the jobs of the list, and what the tables tell of them
+-- the jobs of the list, their earliest times, and what the tables tell of them
 abbrev jobs : (c : tie.After-follow) → Jobs
-jobs c = jobs-in (c .before .before .before .before .before .before .before .before .before .before .before .before .before .args .size) (c .before .before .before .before .before .before .before .before .before .before .before .before .before .args .start .now) (c .before .before .before .before .before .before .before .before .before .before .before .before .before .args .before .now)
+jobs c = jobs-in (c .before .before .before .before .before .before .before .before .before .before .before .before .before .before .before .args .size) (c .before .before .before .before .before .before .before .before .before .before .before .before .before .before .before .args .start .now) (c .before .before .before .before .before .before .before .before .before .before .before .before .before .before .before .args .before .now)
 
-known : (c : tie.After-follow) → Known (jobs c) (c .before .before .before .before .before .tables .last .1 .1 .1 .0) (c .before .before .before .before .before .before .before .before .before .before .earliest .last .1 .1 .1 .0) (c .before .before .before .before .before .tables .last .1 .1 .1 .1 .0) (c .before .before .before .before .before .tables .last .1 .1 .1 .1 .1 .0)
-known c = record { table = c .before .before .before .before .before .tables .ensures .0; earliest = c .before .before .before .before .before .before .before .before .before .before .earliest .ensures .earliest; follow = c .before .before .before .before .before .tables .ensures .1 }
+abbrev early : (c : tie.After-follow) → ℕ → ℕ
+early c = row-in (c .before .before .before .before .before .before .before .before .before .before .before .before .earliest .last .1 .1 .1 .0)
+
+known : (c : tie.After-follow) → Known (jobs c) (early c) (c .before .before .before .before .before .before .before .before .before .before .followers2 .last .1 .1 .0) (c .before .before .before .before .before .levels .last .1 .1 .0) (c .before .before .before .before .before .levels .last .1 .1 .1 .0) (c .before .before .before .before .before .levels .last .1 .1 .1 .1 .0)
+known c = record { levels = c .before .before .before .before .before .levels .ensures .0; ranks = c .before .before .before .before .before .levels .ensures .1; earliest = c .before .before .before .before .before .before .before .before .before .before .before .before .earliest .ensures .earliest; follow = λ i j l. c .before .before .before .before .before .before .before .before .before .before .followers2 .ensures i j }
 
 -- each job one below its least follower
-fits : (c : tie.After-follow) → Fits (jobs c) (row-in (c .before .before .before .before .before .before .before .before .before .before .earliest .last .1 .1 .1 .0)) (c .before .before .before .before .before .before .before .before .before .before .before .before .before .args .row .now) (c .follow .last .1 .1 .1 .1 .0) (c .follow .result)
-fits c = c .follow .ensures .1 (jobs c) (row-in (c .before .before .before .before .before .before .before .before .before .before .earliest .last .1 .1 .1 .0)) refl (known c .follow) (known c .earliest .raised)
+fits : (c : tie.After-follow) → Fits (jobs c) (early c) (c .before .before .before .before .before .before .before .before .before .before .before .before .before .before .before .args .row .now) (c .follow .last .1 .1 .1 .1 .0) (c .follow .result)
+fits c = c .follow .ensures .1 (jobs c) (early c) refl (known c .follow) (known c .earliest .raised)
 
 earliest-requires : tie.Need-earliest-requires
 earliest-requires c κs =
     let p = c .before .before .pre in
-    (record { few = p .few; starts = p .early; closed = p .closed; loopless = p .loopless; held = p .held }, refl, refl, (λ i l. getD-replicate 65 i 65535 0 l))
+    (record { few = p .few; starts = p .early; closed = p .closed; loopless = p .loopless; held = p .held }, refl, refl)
 
-tables-requires : tie.Need-tables-requires
-tables-requires c κs = (c .before .before .before .before .earliest .ensures .rising, (refl, refl, refl), refl, (λ k l. subst (λ (n : ℕ). n < 65) (sym (getD-replicate 65 k 0 0 l)) (omega arith)))
+followers-requires : tie.Need-followers-requires
+followers-requires c κs = (c .before .before .before .before .pre .few, refl, (λ i l. getD-replicate 64 i 0 0 l))
+
+levels-requires : tie.Need-levels-requires
+levels-requires c κs = (c .before .before .before .before .before .before .before .before .before .pre .few, c .before .before .before .before .before .before .earliest .ensures .low, (refl, refl, refl), (λ k l. (getD-replicate 65 k 65535 0 l, getD-replicate 65 k 0 0 l)))
 
 below-requires : tie.Need-below-requires
 below-requires c κs = search needs
 
 follow-requires : tie.Need-follow-requires
-follow-requires c κs = (c .before .before .before .before .before .before .before .before .before .before .before .before .pre .few, c .before .before .before .before .before .before .before .before .before .before .before .before .pre .long, c .before .before .before .before .before .before .before .before .before .earliest .ensures .jobs)
+follow-requires c κs = (c .before .before .before .before .before .before .before .before .before .before .before .before .before .before .pre .few, c .before .before .before .before .before .before .before .before .before .before .before .before .before .before .pre .long, c .before .before .before .before .before .before .before .before .before .before .before .earliest .ensures .jobs)
 
 settled-requires : tie.Need-settled-requires
 settled-requires c κs =
     let f = c .before .before .before .before .before .before .before in
-    let p = c .before .before .before .before .before .before .before .before .before .before .before .before .before .before .before .before .before .before .before .before .pre in (
+    let p = f .before .before .before .before .before .before .before .before .before .before .before .before .before .before .before .pre in (
       p .few,
       f .follow .ensures .0,
-      c .before .before .before .before .before .before .before .before .before .before .before .before .before .before .before .before .before .earliest .ensures .jobs,
-      known f .table .steps,
+      f .before .before .before .before .before .before .before .before .before .before .before .before .earliest .ensures .jobs,
+      known f .levels .steps,
+      (λ i l. known f .ranks i l .0),
       (λ i l. omega (arith, p .late i l, fits f .sunk (c .before .before .before .before .before .before .if1 .taken) .bound .beneath i l)),
-      (jobs f, refl, known f),
+      (jobs f, early f, refl, known f),
     )
 
 returns : tie.Need-returns
 returns c =
     let f = c .before .before .before .before .before .before .before .before in
-    let a = c .before .before .before .before .before .before .before .before .before .before .before .before .before .before .before .before .before .before .before .before .before .args in
+    let a = f .before .before .before .before .before .before .before .before .before .before .before .before .before .before .before .args in
     tightens-settled (a .size) (a .start .now) (a .before .now) (a .row .now) (c .settled .last .1 .1 .1 .1 .1 .1 .0) (c .settled .ensures .0)
-    (f .before .before .before .before .before .before .before .before .before .before .earliest .last .1 .1 .1 .0) (f .follow .last .1 .1 .1 .1 .0) (c .settled .result)
-    (known f .earliest) (fits f .sunk (c .before .before .before .before .before .before .before .if1 .taken)) (c .settled .ensures .1 (jobs f) refl (known f))
+    (f .before .before .before .before .before .before .before .before .before .before .before .before .earliest .last .1 .1 .1 .0) (f .follow .last .1 .1 .1 .1 .0) (c .settled .result)
+    (known f .earliest) (fits f .sunk (c .before .before .before .before .before .before .before .if1 .taken)) (c .settled .ensures .1 (jobs f) (early f) refl (known f))
 
 returns-2 : tie.Need-returns-2
 returns-2 c =
-    let a = c .before .before .before .before .before .before .before .before .before .before .before .before .before .before .args in
+    let a = c .before .before .before .before .before .before .before .before .before .before .before .before .before .before .before .before .args in
     tightens-none (a .size) (a .start .now) (a .before .now) (a .row .now) (c .before .follow .last .1 .1 .1 .1 .0) (c .before .follow .ensures .0) (fits (c .before) .none (c .if1 .left))
 
 pub tighten-spec : {M : Type 1} → statement M
@@ -68,7 +75,8 @@ tighten-spec =
     tie.close
     (tie.spec
     earliest-requires
-    tables-requires
+    followers-requires
+    levels-requires
     below-requires
     follow-requires
     settled-requires

@@ -2,11 +2,11 @@
 -- Assumes nothing.
 use mathlib.Core.Logic.{⊎-elim}
 use native.Mathlib.Omega.{arith}
-use borrow.Author.Needs.{needs}
 use Rattle.schedule.specs.Count.{count}
 use Rattle.planner.specs.Sets.{has}
-use Rattle.planner.proofs.Bits.{walk-less}
+use Rattle.planner.proofs.Bits.{rest-walk, walk-less}
 use Rattle.planner.proofs.TightenEarly.{Reached, reached-start, reached-same, reached-more, reached-after}
+use borrow.Author.Needs.{needs}
 use Rattle.planner.proofs.tighten.early.after.Statement.{statement}
 use Rattle.planner.proofs.tighten.early.after.Tie as tie
 
@@ -22,40 +22,36 @@ loop-holds c = reached-start _ _ _
 first-requires : tie.Need-first-requires Inv-loop μ-loop
 first-requires c κs = search needs
 
-mul-if1 : tie.Need-mul-if1 Inv-loop μ-loop
-mul-if1 c = search needs
+mul-wide : tie.Need-mul-wide Inv-loop μ-loop
+mul-wide c = search needs
 
-element-copy-out-if1 : tie.Need-element-copy-out-if1 Inv-loop μ-loop
-element-copy-out-if1 c = search needs
+element-copy-out-wide : tie.Need-element-copy-out-wide Inv-loop μ-loop
+element-copy-out-wide c = search needs
 
-mul-time : tie.Need-mul-time Inv-loop μ-loop
-mul-time c = search needs
-
-element-copy-out-time : tie.Need-element-copy-out-time Inv-loop μ-loop
-element-copy-out-time c = search needs
+wide-requires : tie.Need-wide-requires Inv-loop μ-loop
+wide-requires c κs = search needs
 
 add-time : tie.Need-add-time Inv-loop μ-loop
-add-time c =
-    let p = c .before .before .before .before .before in
-    let f = c .before .before .before .first in
-    omega (arith, p .before .pre (f .result .0) (p .loop .inv .within (f .result .0) (f .ensures .1)))
+add-time c = omega (arith, c .before .wide .ensures)
 
-without-requires : tie.Need-without-requires Inv-loop μ-loop
-without-requires c κs = search needs
+rest-requires : tie.Need-rest-requires Inv-loop μ-loop
+rest-requires c κs = search needs
 
 loop-less : tie.Need-loop-less Inv-loop μ-loop
 loop-less c =
-    let f = c .before .before .before .first in
-    walk-less (c .before .before .before .before .before .loop .rest) (c .without .result) (f .result .0) (c .without .ensures) (f .ensures .0) (f .ensures .1)
+    let f = c .before .before .before .before .first in
+    walk-less (c .before .before .before .before .before .before .loop .rest) (c .rest .result) (f .result .0) (rest-walk _ _ _ (f .ensures .3) (c .rest .ensures)) (f .ensures .0) (f .ensures .1)
 
 loop-again : tie.Need-loop-again Inv-loop μ-loop
 loop-again c =
-    let p = c .before .before .before .before .before in
+    let p = c .before .before .before .before .before .before in
     let a = p .before .args in
-    let f = c .before .before .before .first in
+    let f = c .before .before .before .before .first in
+    let r = rest-walk (p .loop .rest) (c .rest .result) (f .result .0) (f .ensures .3) (c .rest .ensures) in
+    let h = c .before .before .wide .ensures .0 in
     ⊎-elim
-    (λ w. rw (w .2) (reached-more (a .start) (a .set) (a .early .now) (p .loop .time) (p .loop .rest) (p .loop .inv) (f .result .0) (c .without .result) (c .without .ensures) (f .ensures .1) (w .0 .taken)))
-    (λ w. rw (w .1) (reached-same (a .start) (a .set) (a .early .now) (p .loop .time) (p .loop .rest) (p .loop .inv) (f .result .0) (c .without .result) (c .without .ensures) (f .ensures .1) (w .0 .left)))
+    (λ w. rw (w .1, h) (reached-more (a .start) (a .set) (a .early .now) (p .loop .time) (p .loop .rest) (p .loop .inv) (f .result .0) (c .rest .result) r (f .ensures .1) (omega (arith, h, w .0 .taken))))
+    (λ w. rw (w .1) (reached-same (a .start) (a .set) (a .early .now) (p .loop .time) (p .loop .rest) (p .loop .inv) (f .result .0) (c .rest .result) r (f .ensures .1) (omega (arith, h, w .0 .left))))
     (c .before .if1 .came)
 
 returns : tie.Need-returns Inv-loop μ-loop
@@ -69,12 +65,11 @@ after-spec =
     μ-loop
     loop-holds
     first-requires
-    mul-if1
-    element-copy-out-if1
-    mul-time
-    element-copy-out-time
+    mul-wide
+    element-copy-out-wide
+    wide-requires
     add-time
-    without-requires
+    rest-requires
     loop-less
     loop-again
     returns)

@@ -1,8 +1,9 @@
 -- `planner::tighten::early::earliest` meets its contract.
 -- Assumes nothing.
 use Prim.Native.Nat.{_-_}
+use native.Mathlib.Omega.{arith}
+use Rattle.planner.proofs.TightenEarly.{Making, making-start, making-free, making-time, making-next, making-end}
 use borrow.Author.Needs.{needs}
-use Rattle.planner.proofs.TightenEarly.{Making, making-start, making-free, making-low, making-next, making-end}
 use Rattle.planner.proofs.tighten.early.earliest.Statement.{statement}
 use Rattle.planner.proofs.tighten.early.earliest.Tie as tie
 
@@ -16,7 +17,7 @@ below-requires : tie.Need-below-requires Inv-loop μ-loop
 below-requires c κs = c .pre .0 .few
 
 loop-holds : tie.Need-loop-holds Inv-loop μ-loop
-loop-holds c = making-start _ _ _ (c .before .pre .0) _ _ _ (c .before .pre .1) (c .before .pre .2) (c .before .pre .3) (c .below .ensures)
+loop-holds c = making-start _ _ _ (c .before .pre .0) _ _ _ (c .before .pre .1) (c .before .pre .2) (c .below .ensures)
 
 free-requires : tie.Need-free-requires Inv-loop μ-loop
 free-requires c κs =
@@ -40,11 +41,15 @@ element-copy-out-after : tie.Need-element-copy-out-after Inv-loop μ-loop
 element-copy-out-after c = search needs
 
 after-requires : tie.Need-after-requires Inv-loop μ-loop
-after-requires c κs =
-    let p = c .before .before .before .before .before .before in
+after-requires c κs = search needs
+
+cast-early : tie.Need-cast-early Inv-loop μ-loop
+cast-early c =
+    let p = c .before .before .before .before .before .before .before in
     let a = p .before .before .args in
-    let f = c .before .before .before .before .free in
-    making-low (a .size) (a .start .now) (a .before .now) (p .before .before .pre .0) (p .loop .early) (p .loop .order) (p .loop .todo) (p .loop .k) (p .loop .inv) (f .result .0) (f .ensures .1)
+    let f = c .before .before .before .before .before .free in
+    let w = c .before .before .before .wide .ensures .0 in
+    omega (arith, making-time (a .size) (a .start .now) (a .before .now) (p .before .before .pre .0) (p .loop .early) (p .loop .order) (p .loop .todo) (p .loop .k) (p .loop .inv) (f .result .0) (f .ensures .1) (c .after .result) (rw w at (c .after .ensures)))
 
 mul-early : tie.Need-mul-early Inv-loop μ-loop
 mul-early c = search needs
@@ -52,8 +57,8 @@ mul-early c = search needs
 element-write-early : tie.Need-element-write-early Inv-loop μ-loop
 element-write-early c = search needs
 
-mul-order : tie.Need-mul-order Inv-loop μ-loop
-mul-order c = search needs
+cast-order : tie.Need-cast-order Inv-loop μ-loop
+cast-order c = search needs
 
 element-write-order : tie.Need-element-write-order Inv-loop μ-loop
 element-write-order c = search needs
@@ -73,7 +78,7 @@ loop-again c =
     let a = p .before .before .args in
     let f = c .before .before .before .before .before .before .free in
     let w = c .before .before .before .before .wide .ensures .0 in
-    making-next (a .size) (a .start .now) (a .before .now) (p .before .before .pre .0) (p .loop .early) (p .loop .order) (p .loop .todo) (p .loop .k) (p .loop .inv) (f .result .0) (f .ensures .1) (search needs) (c .before .after .result) (c .without .result) (rw w at (c .before .after .ensures)) (c .without .ensures)
+    making-next (a .size) (a .start .now) (a .before .now) (p .before .before .pre .0) (p .loop .early) (p .loop .order) (p .loop .todo) (p .loop .k) (p .loop .inv) (f .result .0) (f .ensures .1) (c .before .after .result) (rw w at (c .before .after .ensures)) (search needs) (c .without .result) (c .without .ensures)
 
 returns : tie.Need-returns Inv-loop μ-loop
 returns c =
@@ -96,9 +101,10 @@ earliest-spec =
     mul-after
     element-copy-out-after
     after-requires
+    cast-early
     mul-early
     element-write-early
-    mul-order
+    cast-order
     element-write-order
     without-requires
     add-k

@@ -1,50 +1,60 @@
 -- `planner::tighten::early::free` meets its contract: some free job is not passed yet.
 -- Assumes nothing.
+use mathlib.Core.Logic.{⊎-elim}
 use mathlib.Core.Path.{_≡_, sym, subst}
-use Prim.Native.Nat.{ℕ, _-_, _≤_, _<_}
-use native.Mathlib.Omega.{arith}
-use borrow.Author.Needs.{needs}
+use Prim.Native.Nat.{ℕ}
+use lib.Dec.{T}
 use lib.ListN.{getD}
-use Rattle.schedule.proofs.Tests.{lt-by}
+use Rattle.schedule.specs.Count.{count}
+use Rattle.planner.specs.Sets.{has}
 use Rattle.planner.specs.Inner.Early.{Free}
+use Rattle.planner.proofs.Bits.{apart-is, apart-has, has-some, rest-walk, walk-less, walk-split, walk-sub}
+use borrow.Author.Needs.{needs}
 use Rattle.planner.proofs.tighten.early.free.Statement.{statement}
 use Rattle.planner.proofs.tighten.early.free.Tie as tie
 
 abbrev Inv-loop : tie.InvT-loop
-Inv-loop before todo i₀ i = (f : ℕ) × (i ≤ f) × (f < 64) × Free f (getD before f 0) todo
+Inv-loop before todo rest₀ rest = ((j : ℕ) → T (has rest j) → T (has todo j)) × ((f : ℕ) × T (has rest f) × Free f (getD before f 0) todo)
 
 abbrev μ-loop : tie.MeasureT-loop
-μ-loop before todo i₀ i = 64 - i
+μ-loop before todo rest₀ rest = count 64 (has rest)
 
 loop-holds : tie.Need-loop-holds Inv-loop μ-loop
-loop-holds c = (c .pre .0, search needs, c .pre .1, c .pre .2)
+loop-holds c = ((λ j t. t), (c .pre .0, c .pre .1 .member, c .pre .1))
 
-mul-waits : tie.Need-mul-waits Inv-loop μ-loop
-mul-waits c = search needs
+first-requires : tie.Need-first-requires Inv-loop μ-loop
+first-requires c κs = has-some _ (c .loop .inv .1 .0) (c .loop .inv .1 .1)
 
-element-copy-out-waits : tie.Need-element-copy-out-waits Inv-loop μ-loop
-element-copy-out-waits c = search needs
+mul-if1 : tie.Need-mul-if1 Inv-loop μ-loop
+mul-if1 c = search needs
 
-waits-requires : tie.Need-waits-requires Inv-loop μ-loop
-waits-requires c κs = search needs
+element-copy-out-if1 : tie.Need-element-copy-out-if1 Inv-loop μ-loop
+element-copy-out-if1 c = search needs
 
-add-i : tie.Need-add-i Inv-loop μ-loop
-add-i c = search needs
+returns : tie.Need-returns Inv-loop μ-loop
+returns c =
+    let f = c .before .before .first in
+    (f .ensures .0, record { member = c .before .before .before .loop .inv .0 (f .result .0) (f .ensures .1); ready = apart-has _ _ (c .if1 .taken) })
+
+rest-requires : tie.Need-rest-requires Inv-loop μ-loop
+rest-requires c κs = has-some _ (c .before .before .before .loop .inv .1 .0) (c .before .before .before .loop .inv .1 .1)
 
 loop-less : tie.Need-loop-less Inv-loop μ-loop
-loop-less c = search needs
+loop-less c =
+    let f = c .before .before .before .first in
+    walk-less (c .before .before .before .before .loop .rest) (c .rest .result) (f .result .0) (rest-walk _ _ _ (f .ensures .3) (c .rest .ensures)) (f .ensures .0) (f .ensures .1)
 
 loop-again : tie.Need-loop-again Inv-loop μ-loop
 loop-again c =
-    let p = c .before .before .before in
-    let f = p .loop .inv in
+    let p = c .before .before .before .before in
     let a = p .before .args in
-    let not-i : p .loop .i ≡ f .0 → ⊥ = λ e. c .before .waits .ensures .0 (c .if1 .taken) (subst (λ (n : ℕ). Free n (getD (a .before .now) n 0) (a .todo)) (sym e) (f .3)) in
-    let less : p .loop .i < f .0 = lt-by (p .loop .i) (f .0) (λ le. not-i (omega arith)) in
-    (f .0, omega arith, f .2, f .3)
-
-returns : tie.Need-returns Inv-loop μ-loop
-returns c = (search needs, c .before .waits .ensures .1 (c .if1 .left))
+    let f = c .before .before .before .first in
+    let w = rest-walk (p .loop .rest) (c .rest .result) (f .result .0) (f .ensures .3) (c .rest .ensures) in
+    let g = p .loop .inv .1 in
+    let x : Free (f .result .0) (getD (a .before .now) (f .result .0) 0) (a .todo) → ⊥ = λ y. c .before .if1 .left (apart-is _ _ (p .before .fits .todo .fits) (y .ready)) in (
+      (λ j t. p .loop .inv .0 j (walk-sub (p .loop .rest) (c .rest .result) (f .result .0) w j t)),
+      ⊎-elim (λ e. absurd (x (subst (λ (n : ℕ). Free n (getD (a .before .now) n 0) (a .todo)) e (g .2)))) (λ t. (g .0, t, g .2)) (walk-split (p .loop .rest) (c .rest .result) (f .result .0) w (g .0) (g .1)),
+    )
 
 pub free-spec : {M : Type 1} → statement M
 free-spec =
@@ -53,10 +63,10 @@ free-spec =
     Inv-loop
     μ-loop
     loop-holds
-    mul-waits
-    element-copy-out-waits
-    waits-requires
-    add-i
+    first-requires
+    mul-if1
+    element-copy-out-if1
+    returns
+    rest-requires
     loop-less
-    loop-again
-    returns)
+    loop-again)

@@ -12,7 +12,7 @@ use Rattle.schedule.specs.Jobs.{Jobs}
 use Rattle.schedule.specs.Times.{Raised}
 use Rattle.planner.specs.Told.{row-in}
 use Rattle.planner.specs.Inner.Lower.{Eased}
-use Rattle.planner.proofs.Bits.{walk-less, walk-sub}
+use Rattle.planner.proofs.Bits.{rest-walk, walk-less, walk-sub}
 use Rattle.planner.proofs.TightenLower.{eased-same, eased-follow}
 use Rattle.planner.proofs.tighten.follow.capped.Statement.{statement}
 use Rattle.planner.proofs.tighten.follow.capped.Tie as tie
@@ -47,20 +47,20 @@ returns c J early i l e f r =
 sub-time : tie.Need-sub-time Inv-loop μ-loop
 sub-time c = search needs
 
-without-requires : tie.Need-without-requires Inv-loop μ-loop
-without-requires c κs = search needs
+rest-requires : tie.Need-rest-requires Inv-loop μ-loop
+rest-requires c κs = search needs
 
 loop-less : tie.Need-loop-less Inv-loop μ-loop
 loop-less c =
     let k = c .before .before .before .first in
-    walk-less (c .before .before .before .before .before .loop .rest) (c .without .result) (k .result .0) (c .without .ensures) (k .ensures .0) (k .ensures .1)
+    walk-less (c .before .before .before .before .before .loop .rest) (c .rest .result) (k .result .0) (rest-walk _ _ _ (k .ensures .3) (c .rest .ensures)) (k .ensures .0) (k .ensures .1)
 
 loop-again : tie.Need-loop-again Inv-loop μ-loop
 loop-again c =
     let p = c .before .before .before .before .before in
     let k = c .before .before .before .first in
     let row = row-in (p .before .args .row .now) in (
-      (λ a t. p .loop .inv .0 a (walk-sub (p .loop .rest) (c .without .result) (k .result .0) (c .without .ensures) a t)),
+      (λ a t. p .loop .inv .0 a (walk-sub (p .loop .rest) (c .rest .result) (k .result .0) (rest-walk _ _ _ (k .ensures .3) (c .rest .ensures)) a t)),
       (λ J early i l e f r.
           let j = f (k .result .0) (p .loop .inv .0 (k .result .0) (k .ensures .1)) in
           ⊎-elim
@@ -84,7 +84,7 @@ capped-spec =
     element-copy-out-other
     returns
     sub-time
-    without-requires
+    rest-requires
     loop-less
     loop-again
     returns-2)

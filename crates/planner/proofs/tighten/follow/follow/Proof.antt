@@ -52,11 +52,11 @@ loop-holds c = (search needs, c .pre .1, (λ J early e f r. sunk-same J early (c
 sub-k : tie.Need-sub-k Inv-loop μ-loop
 sub-k c = search needs
 
-mul-i : tie.Need-mul-i Inv-loop μ-loop
-mul-i c = search needs
-
 element-copy-out-i : tie.Need-element-copy-out-i Inv-loop μ-loop
 element-copy-out-i c = search needs
+
+cast-i : tie.Need-cast-i Inv-loop μ-loop
+cast-i c = omega (arith, in-row (c .before))
 
 mul-held : tie.Need-mul-held Inv-loop μ-loop
 mul-held c = omega (arith, in-row (c .before))
@@ -121,8 +121,8 @@ follow-spec =
     μ-loop
     loop-holds
     sub-k
-    mul-i
     element-copy-out-i
+    cast-i
     mul-held
     element-copy-out-held
     mul-capped
