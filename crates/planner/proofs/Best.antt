@@ -1,17 +1,24 @@
 -- A walk that keeps the best job so far and its latest time makes the choice; one that keeps the first start so far finds it.
 -- Assumes nothing.
 use mathlib.Core.Bool.{Bool, true, false, cond, not, _&&_}
-use mathlib.Core.Logic.{_⊎_, inl, inr}
-use mathlib.Core.Path.{_≡_, refl, sym, ap, _∙_}
+use mathlib.Core.List.{List}
+use mathlib.Core.Logic.{_⊎_, inl, inr, ⊎-elim}
+use mathlib.Core.Path.{_≡_, refl, sym, ap, subst, _∙_}
 use Prim.Native.Nat.{ℕ, _+_, _≤_, _<_}
+use native.Mathlib.Decide.{le-ind}
 use native.Mathlib.Numerals.{add-one}
 use native.Mathlib.Omega.{arith}
 use borrow.Author.Count.{below-more}
 use borrow.Author.Tests.{lt-ltb, le-ltb, le-leb, lt-leb}
-use lib.Dec.{leb, ltb}
+use lib.Dec.{T, eqb, leb, ltb}
+use lib.ListN.{getD}
 use Rattle.schedule.specs.Make.{choose}
 use Rattle.schedule.proofs.Loop.{choose-suc}
-use Rattle.planner.specs.Inner.Choice.{Wakes}
+use Rattle.schedule.proofs.Tests.{and-fst, same-test, le-by, le-or-lt}
+use Rattle.planner.specs.Sets.{has}
+use Rattle.planner.specs.Told.{row-in}
+use Rattle.planner.specs.Inner.Choice.{begins, ready-by, Wakes}
+use Rattle.planner.proofs.Bits.{empty-has, walk-sub, walk-split, walk-out}
 
 -- the choice among the numbers below n, with its key; 65536, above every key, where there is none
 pub record Found (none : ℕ) (key : ℕ → ℕ) (ok : ℕ → Bool) (n c value : ℕ) : Type 0 where
@@ -50,6 +57,75 @@ module _ (none : ℕ) (key : ℕ → ℕ) (ok : ℕ → Bool) where
         yields : ((best < n) × (least ≡ key best)) ⊎ ((best ≡ none) × (least ≡ 65536)) → (ltb best n && leb (key best) (key n)) ≡ false
         yields (inl x) = simp (lt-ltb best n (x .0), lt-leb (key best) (key n) (omega (arith, x .1)))
         yields (inr x) = simp (le-ltb best n (omega (arith, x .0)))
+
+  -- numbers that do not pass change nothing
+  found-up-to : (n m best least : ℕ) → n ≤ m → m ≤ none → Found none key ok n best least → ((j : ℕ) → n ≤ j → j < m → ok j ≡ false) → Found none key ok m best least
+  found-up-to n m best least l h f = le-ind
+      (λ m. m ≤ none → ((j : ℕ) → n ≤ j → j < m → ok j ≡ false) → Found none key ok m best least)
+      (λ h gap. f)
+      (λ m l ih h gap. subst (λ m. Found none key ok m best least) (add-one m) (found-skip m best least (omega arith) (ih (omega arith) (λ j x y. gap j x (omega arith))) (gap m l (omega arith))))
+      m l h
+
+-- ---- a walk over the jobs left alone, by rising number: `rest` are those from n on
+module _ (size : ℕ) (latest start before : List ℕ) (left undone t : ℕ) where
+  abbrev ok : ℕ → Bool
+  ok = ready-by start before left undone t
+
+  pub record Walked (rest best least : ℕ) : Type 0 where
+    pub n : ℕ
+    pub short : n ≤ size
+    pub found : Found size (row-in latest) ok n best least
+    pub sound : (j : ℕ) → T (has rest j) → T (has left j) × (n ≤ j)
+    pub whole : (j : ℕ) → T (has left j) → n ≤ j → T (has rest j)
+
+  pub walked-none : Walked left size 65536
+  walked-none = record { n = 0; short = omega arith; found = found-none size (row-in latest) ok; sound = λ j x. (x, omega arith); whole = λ j x l. x }
+
+  module _ (rest best least : ℕ) (w : Walked rest best least) where
+    -- from n up to m, with no job of the rest between, no number passes
+    up-to : (m : ℕ) → w .n ≤ m → m ≤ size → ((j : ℕ) → j < m → has rest j ≡ false) → Found size (row-in latest) ok m best least
+    up-to m l h none = found-up-to size (row-in latest) ok (w .n) m best least l h (w .found)
+        (λ j x y. same-test (ok j) false (λ z. subst T (none j y) (w .whole j (and-fst (has left j) _ z) x)) (λ z. absurd z))
+
+    pub walked-all : rest ≡ 0 → best ≡ choose size (row-in latest) ok size
+    walked-all e = up-to size (w .short) (omega arith) (λ j l. rw e (empty-has j)) .chosen
+
+    -- the first job of the rest, and the rest without it
+    module _ (held : (j : ℕ) → T (has left j) → j < size) (k next : ℕ) (met : T (has rest k)) (first : (j : ℕ) → j < k → has rest j ≡ false)
+        (out : (j : ℕ) → has next j ≡ (has rest j && not (eqb j k))) where
+      in-left : T (has left k)
+      in-left = w .sound k met .0
+
+      passes : (b : Bool) → b ≡ begins (getD start k 0) (getD before k 0) undone t → ok k ≡ b
+      passes b e = simp (same-test (has left k) true (λ x. tt) (λ x. in-left)) (sym e)
+
+      here : Found size (row-in latest) ok k best least
+      here = up-to k (w .sound k met .1) (omega (arith, held k in-left)) first
+
+      on : (best′ least′ : ℕ) → Found size (row-in latest) ok (k + 1) best′ least′ → Walked next best′ least′
+      on best′ least′ f = record {
+        n = k + 1;
+        short = omega (arith, held k in-left);
+        found = f;
+        sound = λ j x.
+            let y : T (has rest j) = walk-sub rest next k out j x in (
+              w .sound j y .0,
+              le-by (k + 1) j (λ l. ⊎-elim
+                  (λ h. walk-out rest next k out (let e : j ≡ k = omega arith in subst (λ i. T (has next i)) e x))
+                  (λ h. subst T (first j h) y)
+                  (le-or-lt k j)),
+            );
+        whole = λ j x l. ⊎-elim (λ e. absurd (omega arith)) (λ y. y) (walk-split rest next k out j (w .whole j x (omega (arith, w .sound k met .1))));
+      }
+
+      pub walked-skip : false ≡ begins (getD start k 0) (getD before k 0) undone t → Walked next best least
+      walked-skip e = on best least (found-skip size (row-in latest) ok k best least (held k in-left) here (passes false e))
+
+      pub walked-keep : true ≡ begins (getD start k 0) (getD before k 0) undone t → least ≤ getD latest k 0 → getD latest k 0 < 65536 → Walked next best least
+      walked-keep e h fits = on best least (found-keep size (row-in latest) ok k best least (held k in-left) here (passes true e) h fits)
+
+      pub walked-take : true ≡ begins (getD start k 0) (getD before k 0) undone t → getD latest k 0 < least → Walked next k (getD latest k 0)
+      walked-take e h = on k (getD latest k 0) (found-take size (row-in latest) ok k best least (held k in-left) here (passes true e) h)
 
 -- ---- the first start
 module _ (start : ℕ → ℕ) (t n next : ℕ) (w : Wakes n start t next) where

@@ -8,13 +8,13 @@ use lib.Dec.{eqb, leb}
 use lib.ListN.{getD}
 use Rattle.planner.specs.Sets.{has}
 
--- a job with its start and the set of its predecessors
-abbrev pub begins : ℕ → ℕ → ℕ → ℕ → ℕ → ℕ → Bool
-begins job start before left undone t = leb start t && has left job && eqb (bitAnd before undone) 0
+-- a job's start is at most t and no predecessor of it is undone
+abbrev pub begins : ℕ → ℕ → ℕ → ℕ → Bool
+begins start before undone t = leb start t && eqb (bitAnd before undone) 0
 
--- the same by rows
+-- a job left begins, by rows
 abbrev pub ready-by : List ℕ → List ℕ → ℕ → ℕ → ℕ → ℕ → Bool
-ready-by start before left undone t i = begins i (getD start i 0) (getD before i 0) left undone t
+ready-by start before left undone t i = has left i && begins (getD start i 0) (getD before i 0) undone t
 
 -- a slot after t, with no start between the two
 pub record Wakes (size : ℕ) (start : ℕ → ℕ) (t next : ℕ) : Type 0 where

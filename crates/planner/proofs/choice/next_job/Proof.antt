@@ -1,25 +1,30 @@
--- `planner::choice::next_job` meets its contract. The invariant: `best` is the choice among the jobs passed, `least` its latest time.
+-- `planner::choice::next_job` meets its contract. The invariant: `best` is the choice among the jobs passed, `least` its latest time, `rest` the jobs left beyond.
 -- Assumes nothing.
+use mathlib.Core.Bool.{not, _&&_}
 use mathlib.Core.Logic.{⊎-elim}
-use mathlib.Core.Path.{_≡_, sym, ap, _∙_}
-use Prim.Native.Nat.{_-_, _≤_}
+use mathlib.Core.Path.{_≡_, sym, _∙_}
+use Prim.Native.Nat.{ℕ}
 use native.Mathlib.Omega.{arith}
 use borrow.Author.Needs.{needs}
-use Rattle.schedule.specs.Make.{choose}
-use Rattle.planner.specs.Told.{row-in}
-use Rattle.planner.specs.Inner.Choice.{ready-by}
-use Rattle.planner.proofs.Best.{Found, found-none, found-skip, found-keep, found-take}
+use lib.Dec.{eqb}
+use Rattle.schedule.specs.Count.{count}
+use Rattle.planner.specs.Sets.{has}
+use Rattle.planner.proofs.Best.{Walked, walked-none, walked-all, walked-skip, walked-keep, walked-take}
+use Rattle.planner.proofs.Bits.{rest-walk, walk-less}
 use Rattle.planner.proofs.choice.next_job.Statement.{statement}
 use Rattle.planner.proofs.choice.next_job.Tie as tie
 
 abbrev Inv-loop : tie.InvT-loop
-Inv-loop size start latest before left undone t best₀ least₀ i₀ best least i = (i ≤ size) × Found size (row-in latest) (ready-by start before left undone (t .0)) i best least
+Inv-loop size start latest before left undone t best₀ least₀ rest₀ best least rest = Walked size latest start before left undone (t .0) rest best least
 
 abbrev μ-loop : tie.MeasureT-loop
-μ-loop size start latest before left undone t best₀ least₀ i₀ best least i = size - i
+μ-loop size start latest before left undone t best₀ least₀ rest₀ best least rest = count 64 (has rest)
 
 loop-holds : tie.Need-loop-holds Inv-loop μ-loop
-loop-holds c = (search needs, found-none _ _ _)
+loop-holds c = walked-none _ _ _ _ _ _ _
+
+first-requires : tie.Need-first-requires Inv-loop μ-loop
+first-requires c κs = search needs
 
 mul-ready : tie.Need-mul-ready Inv-loop μ-loop
 mul-ready c = search needs
@@ -45,33 +50,35 @@ element-copy-out-wide c = search needs
 wide-requires : tie.Need-wide-requires Inv-loop μ-loop
 wide-requires c κs = search needs
 
-add-i : tie.Need-add-i Inv-loop μ-loop
-add-i c = search needs
+rest-requires : tie.Need-rest-requires Inv-loop μ-loop
+rest-requires c κs = search needs
+
+-- the rest without the job met
+onward : (c : tie.After-rest Inv-loop μ-loop) → (j : ℕ) → has (c .rest .result) j ≡ (has (c .before .before .before .before .before .before .before .loop .rest) j && not (eqb j (c .before .before .before .before .before .first .result .0)))
+onward c = rest-walk _ _ _ (c .before .before .before .before .before .first .ensures .3) (c .rest .ensures)
 
 loop-less : tie.Need-loop-less Inv-loop μ-loop
-loop-less c = search needs
+loop-less c =
+    let f = c .before .before .before .before .before .first in
+    walk-less (c .before .before .before .before .before .before .before .loop .rest) (c .rest .result) (f .result .0) (onward c) (f .ensures .0) (f .ensures .1)
 
 loop-again : tie.Need-loop-again Inv-loop μ-loop
 loop-again c =
-    let p = c .before .before .before .before .before in
-    let a = p .before .args in
-    let n = p .loop .i in
-    let f = p .loop .inv .1 in
-    let ok : ready-by (a .start .now) (a .before .now) (a .left) (a .undone) (a .t .0) n ≡ c .before .ready .result = sym (c .before .ready .ensures) in (
-      search needs,
-      ⊎-elim
-          (λ w. rw (w .4, w .5, w .2 .ensures .0) (found-take _ _ _ n (p .loop .best) (p .loop .least) (omega arith) f (ok ∙ w .0 .taken) (omega (arith, w .3 .taken, w .2 .ensures .0))))
-          (⊎-elim
-          (λ w. rw (w .4, w .5) (found-keep _ _ _ n (p .loop .best) (p .loop .least) (omega arith) f (ok ∙ w .0 .taken) (omega (arith, w .3 .left, w .2 .ensures .0)) (omega (arith, w .2 .ensures .0, w .2 .ensures .1))))
-          (λ w. rw (w .1, w .2) (found-skip _ _ _ n (p .loop .best) (p .loop .least) (omega arith) f (ok ∙ w .0 .left))))
-          (c .if1 .came),
-    )
+    let p = c .before .before .before .before .before .before .before in
+    let f = c .before .before .before .before .before .first in
+    let r = c .before .before .ready in
+    ⊎-elim
+    (λ w. rw (w .4, w .5, w .2 .ensures .0) (walked-take _ _ _ _ _ _ _ _ _ _ (p .loop .inv) (p .before .pre .1) (f .result .0) _ (f .ensures .1) (f .ensures .2) (onward c)
+    (sym (w .0 .taken) ∙ r .ensures) (omega (arith, w .3 .taken, w .2 .ensures .0))))
+    (⊎-elim
+    (λ w. rw (w .4, w .5) (walked-keep _ _ _ _ _ _ _ _ _ _ (p .loop .inv) (p .before .pre .1) (f .result .0) _ (f .ensures .1) (f .ensures .2) (onward c)
+    (sym (w .0 .taken) ∙ r .ensures) (omega (arith, w .3 .left, w .2 .ensures .0)) (omega (arith, w .2 .ensures .0, w .2 .ensures .1))))
+    (λ w. rw (w .1, w .2) (walked-skip _ _ _ _ _ _ _ _ _ _ (p .loop .inv) (p .before .pre .1) (f .result .0) _ (f .ensures .1) (f .ensures .2) (onward c)
+    (sym (w .0 .left) ∙ r .ensures))))
+    (c .before .if1 .came)
 
 returns : tie.Need-returns Inv-loop μ-loop
-returns c =
-    let p = c .before in
-    let e : p .loop .i ≡ p .before .args .size = omega arith in
-    p .loop .inv .1 .chosen ∙ ap (choose _ _ _) e
+returns c = walked-all _ _ _ _ _ _ _ _ _ _ (c .before .loop .inv) (c .loop-test .left)
 
 pub next-job-spec : {M : Type 1} → statement M
 next-job-spec =
@@ -80,6 +87,7 @@ next-job-spec =
     Inv-loop
     μ-loop
     loop-holds
+    first-requires
     mul-ready
     element-copy-out-ready
     mul-ready-2
@@ -88,7 +96,7 @@ next-job-spec =
     mul-wide
     element-copy-out-wide
     wide-requires
-    add-i
+    rest-requires
     loop-less
     loop-again
     returns)

@@ -4,6 +4,7 @@ use mathlib.Core.Path.{_≡_, _∙_}
 use Prim.Native.Nat.{ℕ}
 use Rattle.schedule.specs.Make.{seat}
 use Rattle.planner.specs.Told.{jobs-in, row-in}
+use Rattle.planner.proofs.Bits.{walk-sub}
 use Rattle.planner.proofs.Serve.{first-is, idle-serves, second-is, lone-serves, full-serves}
 use borrow.Author.Needs.{needs}
 use Rattle.planner.proofs.layout.serve.Statement.{statement}
@@ -30,7 +31,7 @@ other q =
     (p .next-job .result .0) (q .before .without .result) (first p) (e .if1 .left) (q .before .without .ensures)
 
 next-job-requires : tie.Need-next-job-requires
-next-job-requires c κs = search needs
+next-job-requires c κs = (c .before .pre .few, c .before .pre .laid .kept .held)
 
 next-start-requires : tie.Need-next-start-requires
 next-start-requires c κs = search needs
@@ -59,7 +60,9 @@ without-requires : tie.Need-without-requires
 without-requires c κs = search needs
 
 next-job-requires-2 : tie.Need-next-job-requires-2
-next-job-requires-2 c κs = search needs
+next-job-requires-2 c κs =
+    let s = c .before .before .before .before .before .before in
+    (s .pre .few, λ j t. s .pre .laid .kept .held j (walk-sub _ _ _ (c .without .ensures) j t))
 
 returns-2 : tie.Need-returns-2
 returns-2 c =
