@@ -1,4 +1,4 @@
--- `planner::choice::next_job` meets its contract. The invariant: `best` is the choice among the jobs passed, `least` its latest time, `rest` the jobs left beyond.
+-- `planner::choice::next_jobs` meets its contract. The invariant: `best` is the choice among the jobs passed, `least` its latest time, `rest` the jobs left beyond.
 -- Assumes nothing.
 use mathlib.Core.Bool.{not, _&&_}
 use mathlib.Core.Logic.{⊎-elim}
@@ -9,19 +9,19 @@ use borrow.Author.Needs.{needs}
 use lib.Dec.{eqb}
 use Rattle.schedule.specs.Count.{count}
 use Rattle.planner.specs.Sets.{has}
-use Rattle.planner.proofs.Best.{Walked, walked-none, walked-all, walked-skip, walked-keep, walked-take}
+use Rattle.planner.proofs.Best.{Walked, walked-none, walked-all, walked-skip, walked-keep, walked-second, walked-first}
 use Rattle.planner.proofs.Bits.{rest-walk, walk-less}
-use Rattle.planner.proofs.choice.next_job.Statement.{statement}
-use Rattle.planner.proofs.choice.next_job.Tie as tie
+use Rattle.planner.proofs.choice.next_jobs.Statement.{statement}
+use Rattle.planner.proofs.choice.next_jobs.Tie as tie
 
 abbrev Inv-loop : tie.InvT-loop
-Inv-loop size start latest before left undone t best₀ least₀ rest₀ best least rest = Walked size latest start before left undone (t .0) rest best least
+Inv-loop size start latest before left t first₀ least₀ second₀ later₀ rest₀ first least second later rest = Walked size latest start before left (t .0) rest first least second later
 
 abbrev μ-loop : tie.MeasureT-loop
-μ-loop size start latest before left undone t best₀ least₀ rest₀ best least rest = count 64 (has rest)
+μ-loop size start latest before left t first₀ least₀ second₀ later₀ rest₀ first least second later rest = count 64 (has rest)
 
 loop-holds : tie.Need-loop-holds Inv-loop μ-loop
-loop-holds c = walked-none _ _ _ _ _ _ _
+loop-holds c = walked-none _ _ _ _ _ _
 
 first-requires : tie.Need-first-requires Inv-loop μ-loop
 first-requires c κs = search needs
@@ -65,23 +65,28 @@ loop-less c =
 loop-again : tie.Need-loop-again Inv-loop μ-loop
 loop-again c =
     let p = c .before .before .before .before .before .before .before in
+    let a = p .before .args in
+    let l = p .loop in
     let f = c .before .before .before .before .before .first in
     let r = c .before .before .ready in
     ⊎-elim
-    (λ w. rw (w .4, w .5, w .2 .ensures .0) (walked-take _ _ _ _ _ _ _ _ _ _ (p .loop .inv) (p .before .pre .1) (f .result .0) _ (f .ensures .1) (f .ensures .2) (onward c)
-    (sym (w .0 .taken) ∙ r .ensures) (omega (arith, w .3 .taken, w .2 .ensures .0))))
+    (λ w. rw (w .4, w .5, w .6, w .7, w .2 .ensures .0) (walked-first (a .size) (a .latest .now) (a .start .now) (a .before .now) (a .left) (a .t .0) (l .rest) (l .first) (l .least) (l .second) (l .later) (l .inv)
+    (p .before .pre .1) (f .result .0) (c .rest .result) (f .ensures .1) (f .ensures .2) (onward c) (sym (w .0 .taken) ∙ r .ensures) (omega (arith, w .3 .taken, w .2 .ensures .0))))
     (⊎-elim
-    (λ w. rw (w .4, w .5) (walked-keep _ _ _ _ _ _ _ _ _ _ (p .loop .inv) (p .before .pre .1) (f .result .0) _ (f .ensures .1) (f .ensures .2) (onward c)
-    (sym (w .0 .taken) ∙ r .ensures) (omega (arith, w .3 .left, w .2 .ensures .0)) (omega (arith, w .2 .ensures .0, w .2 .ensures .1))))
-    (λ w. rw (w .1, w .2) (walked-skip _ _ _ _ _ _ _ _ _ _ (p .loop .inv) (p .before .pre .1) (f .result .0) _ (f .ensures .1) (f .ensures .2) (onward c)
-    (sym (w .0 .left) ∙ r .ensures))))
+    (λ w. rw (w .5, w .6, w .7, w .8, w .2 .ensures .0) (walked-second (a .size) (a .latest .now) (a .start .now) (a .before .now) (a .left) (a .t .0) (l .rest) (l .first) (l .least) (l .second) (l .later) (l .inv)
+    (p .before .pre .1) (f .result .0) (c .rest .result) (f .ensures .1) (f .ensures .2) (onward c) (sym (w .0 .taken) ∙ r .ensures) (omega (arith, w .3 .left, w .2 .ensures .0)) (omega (arith, w .4 .taken, w .2 .ensures .0)) (omega (arith, w .2 .ensures .0, w .2 .ensures .1))))
+    (⊎-elim
+    (λ w. rw (w .5, w .6, w .7, w .8) (walked-keep (a .size) (a .latest .now) (a .start .now) (a .before .now) (a .left) (a .t .0) (l .rest) (l .first) (l .least) (l .second) (l .later) (l .inv)
+    (p .before .pre .1) (f .result .0) (c .rest .result) (f .ensures .1) (f .ensures .2) (onward c) (sym (w .0 .taken) ∙ r .ensures) (omega (arith, w .3 .left, w .2 .ensures .0)) (omega (arith, w .4 .left, w .2 .ensures .0)) (omega (arith, w .2 .ensures .0, w .2 .ensures .1))))
+    (λ w. rw (w .1, w .2, w .3, w .4) (walked-skip (a .size) (a .latest .now) (a .start .now) (a .before .now) (a .left) (a .t .0) (l .rest) (l .first) (l .least) (l .second) (l .later) (l .inv)
+    (p .before .pre .1) (f .result .0) (c .rest .result) (f .ensures .1) (f .ensures .2) (onward c) (sym (w .0 .left) ∙ r .ensures)))))
     (c .before .if1 .came)
 
 returns : tie.Need-returns Inv-loop μ-loop
-returns c = walked-all _ _ _ _ _ _ _ _ _ _ (c .before .loop .inv) (c .loop-test .left)
+returns c = walked-all _ _ _ _ _ _ _ _ _ _ _ (c .before .loop .inv) (c .loop-test .left)
 
-pub next-job-spec : {M : Type 1} → statement M
-next-job-spec =
+pub next-jobs-spec : {M : Type 1} → statement M
+next-jobs-spec =
     tie.close
     (tie.spec
     Inv-loop
