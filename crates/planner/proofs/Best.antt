@@ -1,4 +1,4 @@
--- A walk that keeps the best job so far and its latest time makes the choice; one that keeps the first start so far finds it.
+-- A walk that keeps the two best jobs so far and their latest times makes the choice; one that keeps the first start so far finds it.
 -- Assumes nothing.
 use mathlib.Core.Bool.{Bool, true, false, cond, not, _&&_, and-true, and-false}
 use mathlib.Core.List.{List}
@@ -26,7 +26,7 @@ pub record Found (none : ℕ) (key : ℕ → ℕ) (ok : ℕ → Bool) (n c value
   pub valued : ((c < n) × (value ≡ key c)) ⊎ ((c ≡ none) × (value ≡ 65536))
 
 module _ (none : ℕ) (key : ℕ → ℕ) (ok : ℕ → Bool) where
-  pub found-none : Found none key ok 0 none 65536
+  found-none : Found none key ok 0 none 65536
   unfolding choose
   found-none = record { chosen = refl; valued = inr (refl, refl) }
 
@@ -41,17 +41,17 @@ module _ (none : ℕ) (key : ℕ → ℕ) (ok : ℕ → Bool) where
     longer (inl x) = inl (omega (arith, x .0), x .1)
     longer (inr x) = inr x
 
-    pub found-skip : ok n ≡ false → Found none key ok (n + 1) best least
+    found-skip : ok n ≡ false → Found none key ok (n + 1) best least
     found-skip p = record { chosen = sym (step false (ltb best n && leb (key best) (key n)) p refl); valued = longer (f .valued) }
 
-    pub found-keep : ok n ≡ true → least ≤ key n → key n < 65536 → Found none key ok (n + 1) best least
+    found-keep : ok n ≡ true → least ≤ key n → key n < 65536 → Found none key ok (n + 1) best least
     found-keep p h fits = record { chosen = sym (step true true p (keeps (f .valued))); valued = longer (f .valued) }
       where
         keeps : ((best < n) × (least ≡ key best)) ⊎ ((best ≡ none) × (least ≡ 65536)) → (ltb best n && leb (key best) (key n)) ≡ true
         keeps (inl x) = simp (lt-ltb best n (x .0), le-leb (key best) (key n) (omega (arith, x .1)))
         keeps (inr x) = absurd (omega (arith, x .1))
 
-    pub found-take : ok n ≡ true → key n < least → Found none key ok (n + 1) n (key n)
+    found-take : ok n ≡ true → key n < least → Found none key ok (n + 1) n (key n)
     found-take p h = record { chosen = sym (step true false p (yields (f .valued))); valued = inl (omega arith, refl) }
       where
         yields : ((best < n) × (least ≡ key best)) ⊎ ((best ≡ none) × (least ≡ 65536)) → (ltb best n && leb (key best) (key n)) ≡ false
@@ -82,6 +82,17 @@ module _ (size : ℕ) (latest start before : List ℕ) (left t : ℕ) where
     pub next : Found size (row-in latest) (others first ok) n second later
     pub sound : (j : ℕ) → T (has rest j) → T (has left j) × (n ≤ j)
     pub whole : (j : ℕ) → T (has left j) → n ≤ j → T (has rest j)
+
+  -- whether job k begins at t
+  abbrev begins-at : ℕ → Bool
+  begins-at k = begins (getD start k 0) (getD before k 0) left t
+
+  -- the walk one job on: k begins or not, and is before the two best so far, between them or after
+  pub record Onward (k next first least second later : ℕ) : Type 0 where
+    pub skipped : false ≡ begins-at k → Walked next first least second later
+    pub third : true ≡ begins-at k → least ≤ getD latest k 0 → later ≤ getD latest k 0 → getD latest k 0 < 65536 → Walked next first least second later
+    pub between : true ≡ begins-at k → least ≤ getD latest k 0 → getD latest k 0 < later → getD latest k 0 < 65536 → Walked next first least k (getD latest k 0)
+    pub ahead : true ≡ begins-at k → getD latest k 0 < least → Walked next k (getD latest k 0) first least
 
   pub walked-none : Walked left size 65536 size 65536
   walked-none = record {
@@ -116,7 +127,7 @@ module _ (size : ℕ) (latest start before : List ℕ) (left t : ℕ) where
       in-left : T (has left k)
       in-left = w .sound k met .0
 
-      passes : (b : Bool) → b ≡ begins (getD start k 0) (getD before k 0) left t → ok k ≡ b
+      passes : (b : Bool) → b ≡ begins-at k → ok k ≡ b
       passes b e = simp (same-test (has left k) true (λ x. tt) (λ x. in-left)) (sym e)
 
       best-here : Found size (row-in latest) ok k first least
@@ -129,7 +140,8 @@ module _ (size : ℕ) (latest start before : List ℕ) (left t : ℕ) where
       new : (b : Bool) → ok k ≡ b → others first ok k ≡ b
       new b e = simp (ne-eqb k first (λ q. ⊎-elim (λ x. omega (arith, x .0)) (λ x. omega (arith, x .0, held k in-left)) (best-here .valued)), and-true) e
 
-      on : (first′ least′ second′ later′ : ℕ) → Found size (row-in latest) ok (k + 1) first′ least′ → Found size (row-in latest) (others first′ ok) (k + 1) second′ later′ → Walked next first′ least′ second′ later′
+      on : (first′ least′ second′ later′ : ℕ) → Found size (row-in latest) ok (k + 1) first′ least′ → Found size (row-in latest) (others first′ ok) (k + 1) second′ later′ →
+          Walked next first′ least′ second′ later′
       on first′ least′ second′ later′ f g = record {
         n = k + 1;
         short = omega (arith, held k in-left);
@@ -146,29 +158,27 @@ module _ (size : ℕ) (latest start before : List ℕ) (left t : ℕ) where
         whole = λ j x l. ⊎-elim (λ e. absurd (omega arith)) (λ y. y) (walk-split rest next k out j (w .whole j x (omega (arith, w .sound k met .1))));
       }
 
-      pub walked-skip : false ≡ begins (getD start k 0) (getD before k 0) left t → Walked next first least second later
-      walked-skip e = on first least second later
-          (found-skip size (row-in latest) ok k first least (held k in-left) best-here (passes false e))
-          (found-skip size (row-in latest) (others first ok) k second later (held k in-left) next-here (new false (passes false e)))
+      -- where k comes first, the best so far is the best of the others
+      passed : Found size (row-in latest) (others k ok) (k + 1) first least
+      passed = found-skip size (row-in latest) (others k ok) k first least (held k in-left)
+          (found-ext size (row-in latest) ok (others k ok) k first least (λ j l. sym (simp (ne-eqb j k (λ q. omega arith), and-true))) best-here)
+          (simp (eq-eqb k k refl, and-false))
 
-      module _ (e : true ≡ begins (getD start k 0) (getD before k 0) left t) where
-        pub walked-keep : least ≤ getD latest k 0 → later ≤ getD latest k 0 → getD latest k 0 < 65536 → Walked next first least second later
-        walked-keep h g fits = on first least second later
+      pub walked-on : Onward k next first least second later
+      walked-on = record {
+        skipped = λ e. on first least second later
+            (found-skip size (row-in latest) ok k first least (held k in-left) best-here (passes false e))
+            (found-skip size (row-in latest) (others first ok) k second later (held k in-left) next-here (new false (passes false e)));
+        third = λ e h g fits. on first least second later
             (found-keep size (row-in latest) ok k first least (held k in-left) best-here (passes true e) h fits)
-            (found-keep size (row-in latest) (others first ok) k second later (held k in-left) next-here (new true (passes true e)) g fits)
-
-        pub walked-second : least ≤ getD latest k 0 → getD latest k 0 < later → getD latest k 0 < 65536 → Walked next first least k (getD latest k 0)
-        walked-second h g fits = on first least k (getD latest k 0)
+            (found-keep size (row-in latest) (others first ok) k second later (held k in-left) next-here (new true (passes true e)) g fits);
+        between = λ e h g fits. on first least k (getD latest k 0)
             (found-keep size (row-in latest) ok k first least (held k in-left) best-here (passes true e) h fits)
-            (found-take size (row-in latest) (others first ok) k second later (held k in-left) next-here (new true (passes true e)) g)
-
-        -- the best so far is the best of the others
-        pub walked-first : getD latest k 0 < least → Walked next k (getD latest k 0) first least
-        walked-first h = on k (getD latest k 0) first least
+            (found-take size (row-in latest) (others first ok) k second later (held k in-left) next-here (new true (passes true e)) g);
+        ahead = λ e h. on k (getD latest k 0) first least
             (found-take size (row-in latest) ok k first least (held k in-left) best-here (passes true e) h)
-            (found-skip size (row-in latest) (others k ok) k first least (held k in-left)
-            (found-ext size (row-in latest) ok (others k ok) k first least (λ j l. sym (simp (ne-eqb j k (λ q. omega arith), and-true))) best-here)
-            (simp (eq-eqb k k refl, and-false)))
+            passed;
+      }
 
 -- ---- the first start
 module _ (start : ℕ → ℕ) (t n next : ℕ) (w : Wakes n start t next) where
