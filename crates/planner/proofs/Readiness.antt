@@ -1,8 +1,8 @@
 -- The choice of a job by sets is the plan's.
 -- Assumes nothing.
-use mathlib.Core.Bool.{Bool, not, _&&_, _||_}
+use mathlib.Core.Bool.{Bool, true, false, not, _&&_, _||_}
 use mathlib.Core.List.{List}
-use mathlib.Core.Path.{_≡_, refl, sym, ap₂, subst}
+use mathlib.Core.Path.{_≡_, refl, sym, ap₂, subst, _∙_}
 use Prim.Native.Nat.{ℕ, _<_}
 use native.Mathlib.Omega.{arith}
 use lib.Bits.{bitAnd}
@@ -54,6 +54,13 @@ apart-all n set undone t slot-of late held = same-test (eqb (bitAnd set undone) 
           says j .read (all-each n earlier x j (held j z)) (and-fst (has set j) (has undone j) both),
         ))
 
+-- of three tests the second may come first
+second-first : (a b c : Bool) → (a && (b && c)) ≡ ((b && a) && c)
+second-first true true c = refl
+second-first true false c = refl
+second-first false true c = refl
+second-first false false c = refl
+
 module _ (size : ℕ) (start latest before : List ℕ) (t left undone : ℕ) (slot-of : ℕ → ℕ)
     (free : (i : ℕ) → i < size → has left i ≡ leb 4096 (slot-of i))
     (late : (i : ℕ) → i < size → has undone i ≡ leb t (slot-of i))
@@ -62,4 +69,6 @@ module _ (size : ℕ) (start latest before : List ℕ) (t left undone : ℕ) (sl
   unfolding taken ready
   choice-taken = choose-ext size (row-in latest) (row-in latest) (ready-by start before left undone t) (ready (jobs-in size start before) 4096 t slot-of) size
       (λ i l. refl)
-      (λ i l. ap₂ (λ x y. leb (getD start i 0) t && x && y) (free i l) (apart-all size (getD before i 0) undone t slot-of late held))
+      (λ i l.
+      second-first (has left i) (leb (getD start i 0) t) (eqb (bitAnd (getD before i 0) undone) 0)
+      ∙ ap₂ (λ x y. leb (getD start i 0) t && x && y) (free i l) (apart-all size (getD before i 0) undone t slot-of late held))

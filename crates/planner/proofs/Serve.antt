@@ -1,6 +1,6 @@
 -- One slot served: the sets and the row that the code keeps follow the plan made.
 -- Assumes nothing.
-use mathlib.Core.Bool.{not, _&&_, _||_, and-true, and-false, or-true, or-false}
+use mathlib.Core.Bool.{Bool, true, false, not, _&&_, _||_, and-true, and-false, or-true, or-false}
 use mathlib.Core.List.{List}
 use mathlib.Core.Logic.{⊎-elim}
 use mathlib.Core.Path.{_≡_, refl, sym, ap, subst, _∙_}
@@ -11,7 +11,7 @@ use native.Mathlib.Numerals.{add-one}
 use native.Mathlib.Omega.{arith}
 use borrow.Author.Tests.{lt-ltb, le-ltb, le-leb, lt-leb, eq-eqb, ne-eqb}
 use lib.Dec.{T, eqb, leb, ltb, leb→le}
-use lib.ListN.{length-set, set}
+use lib.ListN.{length-set, set, getD}
 use lib.Seq.{getD-set-same, getD-set-other}
 use Rattle.schedule.specs.Row.{put}
 use Rattle.schedule.specs.Jobs.{Jobs}
@@ -20,12 +20,12 @@ use Rattle.schedule.proofs.Tests.{and-fst, le-by}
 use Rattle.schedule.proofs.Search.{least}
 use Rattle.schedule.proofs.Rows.{put-cases, put-other}
 use Rattle.schedule.proofs.Choice.{ready-read, ready-write}
-use Rattle.schedule.proofs.Loop.{Agree}
+use Rattle.schedule.proofs.Loop.{Agree, choose-ext}
 use Rattle.schedule.proofs.Seats.{taken-chosen, taken-free, slot-seat, idle-after}
 use Rattle.planner.specs.declared.layout.Stage.{Stage}
 use Rattle.planner.specs.Sets.{has}
 use Rattle.planner.specs.Told.{jobs-in, row-in}
-use Rattle.planner.specs.Inner.Choice.{ready-by, Wakes}
+use Rattle.planner.specs.Inner.Choice.{begins, ready-by, others, Wakes}
 use Rattle.planner.specs.Inner.Layout.{on-second, Kept, Serving, Serves}
 use Rattle.planner.proofs.Readiness.{none-in, choice-taken}
 
@@ -154,6 +154,12 @@ module _ (J : Jobs) (row : ℕ → ℕ) (t next : ℕ) (early : t < 4096) (idle 
       ∙ same i hi)
       u h
 
+-- of three tests the last may come second
+last-second : (x y z : Bool) → ((x && y) && z) ≡ ((x && z) && y)
+last-second true true z = sym (and-true z)
+last-second true false z = sym (and-false z)
+last-second false y z = refl
+
 -- ---- what the code does in a slot
 module _ (size : ℕ) (start latest before : List ℕ) (slot : List ℕ) (g : Stage) (s : Serving (jobs-in size start before) (row-in latest) slot g) where
   abbrev t : ℕ
@@ -227,8 +233,12 @@ module _ (size : ℕ) (start latest before : List ℕ) (slot : List ℕ) (g : St
         (put-cases (now J row t) (core-0 J row t) t i)
 
     -- core 1's job, as the code chooses it
-    pub second-is : choose size row (ready-by start before rest left t) size ≡ core-1 J row t
-    second-is = choice-taken size start latest before t rest left (half J row t) (kept-first .free) late-first (k .held) ∙ sym (second-taken J row t)
+    pub second-is : choose size row (others a (ready-by start before left left t)) size ≡ core-1 J row t
+    second-is =
+        choose-ext size row row (others a (ready-by start before left left t)) (ready-by start before rest left t) size
+        (λ i l. refl)
+        (λ i l. last-second (has left i) (begins (getD start i 0) (getD before i 0) left t) (not (eqb i a)) ∙ ap (λ x. x && begins (getD start i 0) (getD before i 0) left t) (sym (without i)))
+        ∙ choice-taken size start latest before t rest left (half J row t) (kept-first .free) late-first (k .held) ∙ sym (second-taken J row t)
 
     module _ (b : ℕ) (f : b ≡ core-1 J row t) where
       -- a lone job on core 0

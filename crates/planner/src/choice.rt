@@ -1,52 +1,66 @@
-// The choice of the next job for a slot.
+// The choice of the next jobs for a slot.
 use crate::sets;
 use crate::times::wide;
 use schedule::JobIndex;
 use schedule::SlotTime;
 ghost use mathlib.Core.Path.{_≡_};
-ghost use Prim.Native.Nat.{_≤_, _<_};
-ghost use Rattle.schedule.specs.Make.{choose};
+ghost use Prim.Native.Nat.{ℕ, _≤_, _<_};
+ghost use lib.Dec.{T};
+ghost use Rattle.planner.specs.Sets.{has};
 ghost use Rattle.planner.specs.Told.{row-in};
-ghost use Rattle.planner.specs.Inner.Choice.{begins, ready-by, Wakes};
+ghost use Rattle.planner.specs.Inner.Choice.{begins, ready-by, Chooses, Wakes};
 
-// Of the jobs left that can begin at t, the first by latest time, then by number; `size` for none.
-pub fn next_job<'a>(
+// The jobs of core 0 and of core 1 in a slot.
+pub struct Chosen {
+    pub first: JobIndex,
+    pub second: JobIndex,
+}
+
+// Of the jobs left that can begin at t, the first two by latest time, then by number; `size` for none.
+pub fn next_jobs<'a>(
     size: usize,
     start: &'a [u16; 64],
     latest: &'a [u16; 64],
     before: &'a [u64; 64],
     left: u64,
-    undone: u64,
     t: SlotTime,
-) -> JobIndex
-    requires { ⌜ size ≤ 64 ⌝ }
-    ensures { λ r. ⌜ r .0 ≡ choose size (row-in (now (latest .entry))) (ready-by (now (start .entry)) (now (before .entry)) left undone (t .0)) size ⌝ }
+) -> Chosen
+    requires { ⌜ (size ≤ 64) × ((j : ℕ) → T (has left j) → j < size) ⌝ }
+    ensures { λ r. ⌜ Chooses size (row-in (now (latest .entry))) (ready-by (now (start .entry)) (now (before .entry)) left left (t .0)) (r .first .0) (r .second .0) ⌝ }
 {
-    let mut best = size;
+    let mut first = size;
     let mut least: usize = 65536;
-    let mut i: usize = 0;
-    while i < size {
-        if ready(JobIndex(i), start[i], before[i], left, undone, t) {
+    let mut second = size;
+    let mut later: usize = 65536;
+    let mut rest = left;
+    while rest != 0 {
+        let i = sets::first(rest).0;
+        if ready(start[i], before[i], left, t) {
             let due = wide(latest[i]);
             if due < least {
-                best = i;
+                second = first;
+                later = least;
+                first = i;
                 least = due;
+            } else if due < later {
+                second = i;
+                later = due;
             }
         }
-        i += 1;
+        rest = sets::rest(rest);
     }
-    JobIndex(best)
+    Chosen {
+        first: JobIndex(first),
+        second: JobIndex(second),
+    }
 }
 
-// Whether a job left has its start at most t and no predecessor undone.
-fn ready(job: JobIndex, start: u16, before: u64, left: u64, undone: u64, t: SlotTime) -> bool
-    requires { ⌜ job .0 < 64 ⌝ }
-    ensures { λ r. ⌜ r ≡ begins (job .0) start before left undone (t .0) ⌝ }
+// Whether a job has its start at most t and no predecessor undone.
+fn ready(start: u16, before: u64, undone: u64, t: SlotTime) -> bool
+    ensures { λ r. ⌜ r ≡ begins start before undone (t .0) ⌝ }
 {
     if wide(start) <= t.0 {
-        if sets::has(left, job) {
-            return before & undone == 0;
-        }
+        return before & undone == 0;
     }
     false
 }

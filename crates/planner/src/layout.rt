@@ -60,8 +60,8 @@ fn serve<'a>(
     let left = stage.left;
     let t = stage.next;
     let mut after = stage;
-    let first = choice::next_job(size, start, latest, before, left, left, t);
-    let a = first.0;
+    let chosen = choice::next_jobs(size, start, latest, before, left, t);
+    let a = chosen.first.0;
     if a >= size {
         after.next = choice::next_start(size, start, t);
         return after;
@@ -69,14 +69,13 @@ fn serve<'a>(
     slot[a] = t.0 as u16;
     let next = SlotTime(t.0 + 1);
     after.next = next;
-    after.left = sets::without(left, first);
-    let other = choice::next_job(size, start, latest, before, after.left, left, t);
-    let b = other.0;
+    after.left = sets::without(left, chosen.first);
+    let b = chosen.second.0;
     if b >= size {
         return after;
     }
     slot[b] = t.0 as u16;
-    after.left = sets::without(after.left, other);
-    after.second = sets::with(after.second, other);
+    after.left = sets::without(after.left, chosen.second);
+    after.second = sets::with(after.second, chosen.second);
     after
 }

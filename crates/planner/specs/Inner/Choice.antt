@@ -1,20 +1,31 @@
 -- Which job can begin at a slot, by sets: `left` the jobs not placed, `undone` those not in earlier slots.
 -- Assumes nothing.
-use mathlib.Core.Bool.{Bool, _&&_}
+use mathlib.Core.Bool.{Bool, not, _&&_}
 use mathlib.Core.List.{List}
+use mathlib.Core.Path.{_≡_}
 use Prim.Native.Nat.{ℕ, _≤_, _<_}
 use lib.Bits.{bitAnd}
 use lib.Dec.{eqb, leb}
 use lib.ListN.{getD}
+use Rattle.schedule.specs.Make.{choose}
 use Rattle.planner.specs.Sets.{has}
 
--- a job with its start and the set of its predecessors
-abbrev pub begins : ℕ → ℕ → ℕ → ℕ → ℕ → ℕ → Bool
-begins job start before left undone t = leb start t && has left job && eqb (bitAnd before undone) 0
+-- a job's start is at most t and no predecessor of it is undone
+abbrev pub begins : ℕ → ℕ → ℕ → ℕ → Bool
+begins start before undone t = leb start t && eqb (bitAnd before undone) 0
 
--- the same by rows
+-- a job left begins, by rows
 abbrev pub ready-by : List ℕ → List ℕ → ℕ → ℕ → ℕ → ℕ → Bool
-ready-by start before left undone t i = begins i (getD start i 0) (getD before i 0) left undone t
+ready-by start before left undone t i = has left i && begins (getD start i 0) (getD before i 0) undone t
+
+-- any that passes but one
+abbrev pub others : ℕ → (ℕ → Bool) → ℕ → Bool
+others one ok i = ok i && not (eqb i one)
+
+-- the first of those that pass, and the first of the others
+pub record Chooses (size : ℕ) (key : ℕ → ℕ) (ok : ℕ → Bool) (first second : ℕ) : Type 0 where
+  pub best : first ≡ choose size key ok size
+  pub next : second ≡ choose size key (others first ok) size
 
 -- a slot after t, with no start between the two
 pub record Wakes (size : ℕ) (start : ℕ → ℕ) (t next : ℕ) : Type 0 where

@@ -1,0 +1,108 @@
+-- `planner::choice::next_jobs` meets its contract. The invariant: `first` and `second` are the choice among the jobs passed, `least` and `later` their latest times, `rest` the jobs left beyond.
+-- Assumes nothing.
+use mathlib.Core.Bool.{not, _&&_}
+use mathlib.Core.Logic.{⊎-elim}
+use mathlib.Core.Path.{_≡_, sym, _∙_}
+use Prim.Native.Nat.{ℕ}
+use native.Mathlib.Omega.{arith}
+use borrow.Author.Needs.{needs}
+use lib.Dec.{eqb}
+use Rattle.schedule.specs.Count.{count}
+use Rattle.planner.specs.Sets.{has}
+use Rattle.planner.proofs.Best.{Walked, walked-none, walked-all, walked-on}
+use Rattle.planner.proofs.Bits.{rest-walk, walk-less}
+use Rattle.planner.proofs.choice.next_jobs.Statement.{statement}
+use Rattle.planner.proofs.choice.next_jobs.Tie as tie
+
+abbrev Inv-loop : tie.InvT-loop
+Inv-loop size start latest before left t first₀ least₀ second₀ later₀ rest₀ first least second later rest = Walked size latest start before left (t .0) rest first least second later
+
+abbrev μ-loop : tie.MeasureT-loop
+μ-loop size start latest before left t first₀ least₀ second₀ later₀ rest₀ first least second later rest = count 64 (has rest)
+
+loop-holds : tie.Need-loop-holds Inv-loop μ-loop
+loop-holds c = walked-none _ _ _ _ _ _
+
+first-requires : tie.Need-first-requires Inv-loop μ-loop
+first-requires c κs = search needs
+
+mul-ready : tie.Need-mul-ready Inv-loop μ-loop
+mul-ready c = search needs
+
+element-copy-out-ready : tie.Need-element-copy-out-ready Inv-loop μ-loop
+element-copy-out-ready c = search needs
+
+mul-ready-2 : tie.Need-mul-ready-2 Inv-loop μ-loop
+mul-ready-2 c = search needs
+
+element-copy-out-ready-2 : tie.Need-element-copy-out-ready-2 Inv-loop μ-loop
+element-copy-out-ready-2 c = search needs
+
+ready-requires : tie.Need-ready-requires Inv-loop μ-loop
+ready-requires c κs = search needs
+
+mul-wide : tie.Need-mul-wide Inv-loop μ-loop
+mul-wide c = search needs
+
+element-copy-out-wide : tie.Need-element-copy-out-wide Inv-loop μ-loop
+element-copy-out-wide c = search needs
+
+wide-requires : tie.Need-wide-requires Inv-loop μ-loop
+wide-requires c κs = search needs
+
+rest-requires : tie.Need-rest-requires Inv-loop μ-loop
+rest-requires c κs = search needs
+
+-- the rest without the job met
+less : (c : tie.After-rest Inv-loop μ-loop) → (j : ℕ) →
+    has (c .rest .result) j ≡ (has (c .before .before .before .before .before .before .before .loop .rest) j && not (eqb j (c .before .before .before .before .before .first .result .0)))
+less c = rest-walk _ _ _ (c .before .before .before .before .before .first .ensures .3) (c .rest .ensures)
+
+loop-less : tie.Need-loop-less Inv-loop μ-loop
+loop-less c =
+    let f = c .before .before .before .before .before .first in
+    walk-less (c .before .before .before .before .before .before .before .loop .rest) (c .rest .result) (f .result .0) (less c) (f .ensures .0) (f .ensures .1)
+
+loop-again : tie.Need-loop-again Inv-loop μ-loop
+loop-again c =
+    let p = c .before .before .before .before .before .before .before in
+    let a = p .before .args in
+    let l = p .loop in
+    let f = c .before .before .before .before .before .first in
+    let r = c .before .before .ready in
+    let on = walked-on (a .size) (a .latest .now) (a .start .now) (a .before .now) (a .left) (a .t .0) (l .rest) (l .first) (l .least) (l .second) (l .later) (l .inv)
+    (p .before .pre .1) (f .result .0) (c .rest .result) (f .ensures .1) (f .ensures .2) (less c) in
+    ⊎-elim
+    (λ w. rw (w .4, w .5, w .6, w .7, w .2 .ensures .0) (on .ahead (sym (w .0 .taken) ∙ r .ensures) (omega (arith, w .3 .taken, w .2 .ensures .0))))
+    (⊎-elim
+    (λ w. rw (w .5, w .6, w .7, w .8, w .2 .ensures .0) (on .between (sym (w .0 .taken) ∙ r .ensures)
+    (omega (arith, w .3 .left, w .2 .ensures .0)) (omega (arith, w .4 .taken, w .2 .ensures .0)) (omega (arith, w .2 .ensures .0, w .2 .ensures .1))))
+    (⊎-elim
+    (λ w. rw (w .5, w .6, w .7, w .8) (on .third (sym (w .0 .taken) ∙ r .ensures)
+    (omega (arith, w .3 .left, w .2 .ensures .0)) (omega (arith, w .4 .left, w .2 .ensures .0)) (omega (arith, w .2 .ensures .0, w .2 .ensures .1))))
+    (λ w. rw (w .1, w .2, w .3, w .4) (on .skipped (sym (w .0 .left) ∙ r .ensures)))))
+    (c .before .if1 .came)
+
+returns : tie.Need-returns Inv-loop μ-loop
+returns c = walked-all _ _ _ _ _ _ _ _ _ _ _ (c .before .loop .inv) (c .loop-test .left)
+
+pub next-jobs-spec : {M : Type 1} → statement M
+next-jobs-spec =
+    tie.close
+    (tie.spec
+    Inv-loop
+    μ-loop
+    loop-holds
+    first-requires
+    mul-ready
+    element-copy-out-ready
+    mul-ready-2
+    element-copy-out-ready-2
+    ready-requires
+    mul-wide
+    element-copy-out-wide
+    wide-requires
+    rest-requires
+    loop-less
+    loop-again
+    returns)
