@@ -1,9 +1,7 @@
--- A book in lent memory, and answers as numbers.
+-- Answers as numbers.
 -- Assumes nothing.
-use mathlib.Core.List.{List}
 use mathlib.Core.Path.{_≡_}
 use Prim.Native.Nat.{ℕ}
-use Rattle.planner.specs.declared.book.Book.{Book}
 use Rattle.planner.specs.declared.refusal.Answer.{Answer}
 use Rattle.planner.specs.declared.refusal.Class.{Class}
 use Rattle.planner.specs.declared.refusal.Class.the-variants.{Room, Request, Plan, Form, None}
@@ -12,10 +10,6 @@ use Rattle.planner.specs.declared.refusal.Placed.the-variants.{At, Refused}
 use Rattle.planner.specs.Answer.{number-of, value-of}
 use Rattle.jobfile.specs.declared.reader.Event.{Event}
 use Rattle.jobfile.specs.declared.reader.Event.the-variants as event
-
--- the book that lies in four parts
-abbrev pub held : ℕ → List ℕ → List ℕ → List ℕ → Book
-held size start latest before = record { size = size; start = start; latest = latest; before = before }
 
 -- an answer told as two numbers (01, Numbers of refusal: "No.", "Returned with it")
 pub record Tells (answer : Answer) (number value : ℕ) : Type 0 where

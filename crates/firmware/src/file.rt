@@ -3,8 +3,8 @@ use crate::lent;
 use jobfile::Event;
 use planner::Book;
 ghost use mathlib.Core.Path.{_≡_};
-ghost use Rattle.planner.specs.Told.{Made};
-ghost use Rattle.firmware.specs.Lent.{held, event-number, event-value};
+ghost use Rattle.planner.specs.Told.{Made, held};
+ghost use Rattle.firmware.specs.Lent.{event-number, event-value};
 ghost use Rattle.firmware.specs.Calls.{ReadsOne, WritesFile};
 
 #[no_mangle]
@@ -20,26 +20,7 @@ pub extern "C" fn firmware_read(
     requires { ⌜ Made (held (now size) (now start) (now latest) (now before)) ⌝ }
     ensures { λ r. ⌜ ReadsOne (held (now (size .entry)) (now (start .entry)) (now (latest .entry)) (now (before .entry))) (now (file .entry)) (now (at .entry)) (held (now (size .exit)) (now (start .exit)) (now (latest .exit)) (now (before .exit))) (now (at .exit)) r (now (answer .exit)) ⌝ }
 {
-    let starts = *start;
-    let times = *latest;
-    let sets = *before;
-    let book = Book {
-        size: *size,
-        start: starts,
-        latest: times,
-        before: sets,
-    };
-    let step = jobfile::read(book, file, *at);
-    let event = step.event;
-    let next = step.book;
-    let next_starts = next.start;
-    let next_times = next.latest;
-    let next_sets = next.before;
-    *size = next.size;
-    *start = next_starts;
-    *latest = next_times;
-    *before = next_sets;
-    *at = step.at;
+    let event = jobfile::read_into(size, start, latest, before, file, at);
     *answer = value(event);
     number(event)
 }

@@ -4,8 +4,8 @@ use crate::lent::value;
 use planner::Book;
 use planner::Placed;
 use schedule::JobIndex;
-ghost use Rattle.planner.specs.Told.{Made};
-ghost use Rattle.firmware.specs.Lent.{held, seat};
+ghost use Rattle.planner.specs.Told.{Made, held};
+ghost use Rattle.firmware.specs.Lent.{seat};
 ghost use Rattle.firmware.specs.Calls.{MakesPlan, FindsPlace};
 
 #[no_mangle]

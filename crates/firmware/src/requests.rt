@@ -1,11 +1,9 @@
 // A book opened, and requests on it.
 use crate::lent::number;
 use crate::lent::value;
-use planner::Book;
 use planner::Request;
 use schedule::JobIndex;
-ghost use Rattle.planner.specs.Told.{Told, Made, nothing-listed};
-ghost use Rattle.firmware.specs.Lent.{held};
+ghost use Rattle.planner.specs.Told.{Told, Made, held, nothing-listed};
 ghost use Rattle.firmware.specs.Calls.{Asks};
 
 #[no_mangle]
@@ -96,7 +94,7 @@ pub extern "C" fn firmware_draw_in(
     )
 }
 
-// The book taken from its four parts and put back, and the answer told.
+// A request, and the answer told.
 fn ask(
     size: &mut usize,
     start: &mut [u16; 64],
@@ -108,25 +106,7 @@ fn ask(
     requires { ⌜ Made (held (now size) (now start) (now latest) (now before)) ⌝ }
     ensures { λ r. ⌜ Asks (held (now (size .entry)) (now (start .entry)) (now (latest .entry)) (now (before .entry))) request (held (now (size .exit)) (now (start .exit)) (now (latest .exit)) (now (before .exit))) r (now (answer .exit)) ⌝ }
 {
-    let starts = *start;
-    let times = *latest;
-    let sets = *before;
-    let book = Book {
-        size: *size,
-        start: starts,
-        latest: times,
-        before: sets,
-    };
-    let applied = planner::apply(book, request);
-    let told = applied.answer;
-    let next = applied.book;
-    let next_starts = next.start;
-    let next_times = next.latest;
-    let next_sets = next.before;
-    *size = next.size;
-    *start = next_starts;
-    *latest = next_times;
-    *before = next_sets;
+    let told = planner::amend(size, start, latest, before, request);
     *answer = value(told);
     number(told)
 }

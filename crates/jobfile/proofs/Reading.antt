@@ -1,4 +1,4 @@
--- One record read at an offset: what each way out shows, and that a read has one outcome.
+-- One record read at an offset: what a whole record shows, and that a read has one outcome.
 -- Assumes nothing.
 use mathlib.Core.List.{List}
 use mathlib.Core.Path.{_≡_, sym, ap, _∙_}
@@ -11,11 +11,10 @@ use Rattle.planner.specs.Unless.{passed, One}
 use Rattle.planner.proofs.Once.{unless-one, applies-only}
 use Rattle.jobfile.specs.declared.record.Asked.{Asked}
 use Rattle.jobfile.specs.declared.record.Asked.the-variants.{Known, Unknown}
-use Rattle.jobfile.specs.declared.reader.Event.{Event}
 use Rattle.jobfile.specs.declared.reader.Event.the-variants as event
 use Rattle.jobfile.specs.declared.reader.Step.{Step}
 use Rattle.jobfile.specs.Record.{asked-at}
-use Rattle.jobfile.specs.Read.{stays, Asks, ReadOutcome, ReadsRecord}
+use Rattle.jobfile.specs.Read.{Asks, ReadsRecord}
 
 -- a whole record stands at the offset
 pub asks-reads : (k : Book) (file : List ℕ) (at : ℕ) (r : Step) (a : Asked) → length file ≤ 24576 → at + 6 ≤ length file → a ≡ asked-at file at → Made (r .book) → Asks k at a r →
@@ -26,10 +25,6 @@ asks-reads k file at r a short inside e made x = record {
 }
 
 module _ (k : Book) (file : List ℕ) (at : ℕ) (m : Made k) where
-  -- the end or a stop
-  pub stay-reads : (r : Step) (e : Event) → r ≡ stays k at e → ReadOutcome k file at r → ReadsRecord k file at r
-  stay-reads r e x o = record { outcome = o; made = rw x m }
-
   -- a read has one outcome
   asks-one : (a : Asked) → One (Asks k at a)
   asks-one Unknown r s x y = x ∙ sym y

@@ -41,7 +41,7 @@ ReadOutcome k file at =
     (Unless (length file < at + 6) (stays k at (event.Stopped 11 at))
     (Asks k at (asked-at file at))))
 
--- what read promises; `made` follows from the rest, and serves the next call
+-- what read and read_into promise; `made` follows from the rest, and serves the next call
 pub record ReadsRecord (k : Book) (file : List ℕ) (at : ℕ) (r : Step) : Type 0 where
   pub outcome : ReadOutcome k file at r
   pub made : Made (r .book)

@@ -8,4 +8,5 @@ pub use file::read_file;
 pub use reader::Event;
 pub use reader::Step;
 pub use reader::read;
+pub use reader::read_into;
 pub use writer::write;

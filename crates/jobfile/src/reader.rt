@@ -3,9 +3,8 @@ use crate::record;
 use crate::record::Asked;
 use planner::Answer;
 use planner::Book;
-ghost use mathlib.Core.Path.{_≡_};
-ghost use Rattle.planner.specs.Told.{Made};
-ghost use Rattle.jobfile.specs.Read.{stays, ReadsRecord};
+ghost use Rattle.planner.specs.Told.{Made, held};
+ghost use Rattle.jobfile.specs.Read.{ReadsRecord};
 
 pub struct Step {
     pub book: Book,
@@ -20,42 +19,70 @@ pub enum Event {
     Stopped(u8, usize),
 }
 
-// The request is answered, refused or not, and the offset moves on; at the end and at a stop both stay.
+// A record read into a book taken and given back.
 pub fn read(book: Book, file: &[u8], at: usize) -> Step
     requires { ⌜ Made book ⌝ }
     ensures { λ r. ⌜ ReadsRecord book (now (file .entry)) at r ⌝ }
 {
-    let length = file.len();
-    if length > 24576 {
-        return stay(book, at, Event::Stopped(9, 0));
-    }
-    if at == length {
-        return stay(book, at, Event::End);
-    }
-    if at > length {
-        return stay(book, at, Event::Stopped(11, at));
-    }
-    if length - at < 6 {
-        return stay(book, at, Event::Stopped(11, at));
-    }
-    let asked = record::asked_at(file, at);
-    match asked {
-        Asked::Known(request) => {
-            let applied = planner::apply(book, request);
-            let next = applied.book;
-            let answer = applied.answer;
-            Step {
-                book: next,
-                at: at + 6,
-                event: Event::Request(answer),
-            }
-        }
-        Asked::Unknown => stay(book, at, Event::Stopped(10, at)),
+    let mut size = book.size;
+    let mut start = book.start;
+    let mut latest = book.latest;
+    let mut before = book.before;
+    let mut moved = at;
+    let event = read_into(
+        &mut size,
+        &mut start,
+        &mut latest,
+        &mut before,
+        file,
+        &mut moved,
+    );
+    let next = Book {
+        size,
+        start,
+        latest,
+        before,
+    };
+    Step {
+        book: next,
+        at: moved,
+        event,
     }
 }
 
-fn stay(book: Book, at: usize, event: Event) -> Step
-    ensures { λ r. ⌜ r ≡ stays book at event ⌝ }
+// The book lies in its four parts. The request is answered, refused or not, and the offset moves on; at the end and at a stop both stay.
+pub fn read_into(
+    size: &mut usize,
+    start: &mut [u16; 64],
+    latest: &mut [u16; 64],
+    before: &mut [u64; 64],
+    file: &[u8],
+    at: &mut usize,
+) -> Event
+    requires { ⌜ Made (held (now size) (now start) (now latest) (now before)) ⌝ }
+    ensures { λ r. ⌜ ReadsRecord (held (now (size .entry)) (now (start .entry)) (now (latest .entry)) (now (before .entry))) (now (file .entry)) (now (at .entry)) (record { book = held (now (size .exit)) (now (start .exit)) (now (latest .exit)) (now (before .exit)); at = now (at .exit); event = r }) ⌝ }
 {
-    Step { book, at, event }
+    let length = file.len();
+    let offset = *at;
+    if length > 24576 {
+        return Event::Stopped(9, 0);
+    }
+    if offset == length {
+        return Event::End;
+    }
+    if offset > length {
+        return Event::Stopped(11, offset);
+    }
+    if length - offset < 6 {
+        return Event::Stopped(11, offset);
+    }
+    let asked = record::asked_at(file, offset);
+    match asked {
+        Asked::Known(request) => {
+            *at = offset + 6;
+            let answer = planner::amend(size, start, latest, before, request);
+            Event::Request(answer)
+        }
+        Asked::Unknown => Event::Stopped(10, offset),
+    }
 }

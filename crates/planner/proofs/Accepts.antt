@@ -25,13 +25,12 @@ use Rattle.planner.specs.declared.book.Applied.{Applied}
 use Rattle.planner.specs.Sets.{has}
 use Rattle.planner.specs.Told.{jobs-of, latest-of, row-in, Told}
 use Rattle.planner.specs.Unless.{passed}
-use Rattle.planner.specs.Outcome.{Planned, acceptance, Judged, Applies}
-use Rattle.planner.specs.Inner.Book.{Tight, fits, with-latest}
+use Rattle.planner.specs.Outcome.{Planned, acceptance, Applies}
 use Rattle.planner.specs.Inner.Chains.{Links, Joins}
 use Rattle.planner.proofs.Bits.{only, with-has}
 use Rattle.schedule.proofs.Same.{reads-one, plan-one}
 use Rattle.planner.proofs.Once.{applies-by}
-use Rattle.planner.proofs.Step.{Grows, size-is, job-grows, order-grows, followed-told, told-judged, settled-judged}
+use Rattle.planner.proofs.Step.{Grows, size-is, job-grows, order-grows, followed-told, told-judged, Tight, with-latest, tight-judged}
 use Rattle.planner.proofs.Join.{or-joins, none-joins, links-by}
 
 -- ---- a list by its entries
@@ -118,7 +117,7 @@ module _ (L : Listed) (k : Book) (t : Told k L) where
         value = k .size;
         applies = applies-by k (Job s d) r (L, t) (λ M u.
             passed (λ f. omega (arith, size-is M k u)) (passed (λ f. ⊎-elim (λ g. omega arith) (λ g. omega arith) f) (passed (λ f. omega arith)
-            (subst (λ n. Judged (with-job M s d) n k r) (size-is M k u) (settled-judged (with-job M s d) k grown (k .size) r (job-grows M k u s d room low high) (fits (x .0) (x .1) refl))))));
+            (tight-judged (with-job M s d) k grown (k .size) _ (x .0) (size-is M k u) (job-grows M k u s d room low high) (x .1)))));
       }
     where
       grown : Book
@@ -166,5 +165,5 @@ module _ (L : Listed) (k : Book) (t : Told k L) where
         next = with-latest grown (x .0);
         value = 0;
         applies = applies-by k _ _ (L, t) (λ M u.
-            passed (held M u) (passed (clear M u) (settled-judged (with-order M a b) k grown 0 (acceptance (with-latest grown (x .0)) 0) (grows M u) (fits (x .0) (x .1) refl))));
+            passed (held M u) (passed (clear M u) (tight-judged (with-order M a b) k grown 0 0 (x .0) refl (grows M u) (x .1))));
       }

@@ -13,6 +13,7 @@ use lib.Seq.{getD-set-same, getD-set-other}
 use Rattle.schedule.specs.Row.{put}
 use Rattle.schedule.specs.Listed.{Listed, Chain, written, with-job, with-order, with-deadline}
 use Rattle.schedule.specs.Grow.{Added, Linked}
+use Rattle.schedule.specs.Times.{Earliest, Latest}
 use Rattle.schedule.proofs.Tests.{le-or-lt}
 use Rattle.schedule.proofs.Rows.{put-all, put-other}
 use Rattle.schedule.proofs.Loop.{put-set}
@@ -23,12 +24,11 @@ use Rattle.planner.specs.declared.book.Book.{Book}
 use Rattle.planner.specs.declared.refusal.Answer.the-variants.{Accepted}
 use Rattle.planner.specs.declared.book.Applied.{Applied}
 use Rattle.planner.specs.Sets.{has}
-use Rattle.planner.specs.Told.{jobs-of, latest-of, Shaped, Limited, Told, nothing-listed}
+use Rattle.planner.specs.Told.{jobs-of, latest-of, row-in, Shaped, Limited, Told, nothing-listed}
 use Rattle.planner.specs.Unless.{refused, passed}
-use Rattle.planner.specs.Outcome.{acceptance, Judged}
-use Rattle.planner.specs.Inner.Book.{Ready, Tight, Settled, none, fits}
+use Rattle.planner.specs.Outcome.{refusal, acceptance, Judged}
 use Rattle.planner.specs.Inner.Chains.{Links}
-use Rattle.planner.specs.Inner.Tighten.{Tightens}
+use Rattle.planner.specs.Inner.Tighten.{Tightenable, Tightens}
 use Rattle.schedule.proofs.Same.{plan-one}
 
 pub zeros : (n i : ℕ) → _≡_ {A = ℕ} (getD (replicate n 0) i 0) 0
@@ -66,9 +66,6 @@ false-T b e t = rw e at t
 pub told-judged : (L : Listed) (value : ℕ) (k : Book) (r : Applied) → r .answer ≡ Accepted value → Told (r .book) L → Judged L value k r
 told-judged L value k r e t = passed (λ no. no (holds-planned 2 (omega arith) (omega arith) L (jobs-of (r .book)) (latest-of (r .book)) (t .holds))) (record { answer = e; told = t })
 
-pub accepted-judged : (L : Listed) (value : ℕ) (k next : Book) (r : Applied) → r ≡ acceptance next value → Told next L → Judged L value k r
-accepted-judged L value k next r e t = rw e (told-judged L value k _ refl t)
-
 -- the enlarged list L, and the grown book that the code tightens for it
 pub record Grows (L : Listed) (grown : Book) : Type 0 where
   pub shaped : Shaped grown
@@ -76,27 +73,30 @@ pub record Grows (L : Listed) (grown : Book) : Type 0 where
   pub late : (i : ℕ) → i < grown .size → latest-of grown i ≤ 4096
   pub onward : Onward 2 L (jobs-of grown) (latest-of grown)
 
-pub grows-ready : (L : Listed) (grown : Book) → Grows L grown → Ready grown
+-- its rows may be tightened
+pub grows-ready : (L : Listed) (grown : Book) → Grows L grown → Tightenable (grown .size) (grown .start) (grown .before) (grown .latest)
 grows-ready L grown g = record {
-  shaped = g .shaped;
-  rows = record {
-    few = g .shaped .few;
-    long = g .shaped .latests;
-    early = λ i l. omega (arith, g .onward .reads .start i l, g .limited .start i (omega (arith, g .onward .reads .size)));
-    late = g .late;
-    closed = reads-closed L (jobs-of grown) (g .onward .reads);
-    loopless = reads-loopless L (jobs-of grown) (g .onward .reads) (g .onward .loopless);
-    held = g .shaped .before-rest;
-  };
+  few = g .shaped .few;
+  long = g .shaped .latests;
+  early = λ i l. omega (arith, g .onward .reads .start i l, g .limited .start i (omega (arith, g .onward .reads .size)));
+  late = g .late;
+  closed = reads-closed L (jobs-of grown) (g .onward .reads);
+  loopless = reads-loopless L (jobs-of grown) (g .onward .reads) (g .onward .loopless);
+  held = g .shaped .before-rest;
 }
 
--- a row that the engine gave back is taken
-pub tightens-tight : (k : Book) (row : List ℕ) → Shaped k → Tightens (k .size) (k .start) (k .before) (k .latest) row true → Tight k row
-tightens-tight k row s t = record { size = t .length; rest = λ i l. t .rest refl i l ∙ s .latest-rest i l; latest = t .latest refl }
+-- the row holds the latest times under the book's
+pub record Tight (k : Book) (row : List ℕ) : Type 0 where
+  pub size : length row ≡ 64
+  pub rest : (i : ℕ) → k .size ≤ i → getD row i 0 ≡ 0
+  pub latest : (early : ℕ → ℕ) → Earliest (jobs-of k) early → Latest 2 (jobs-of k) early (latest-of k) (row-in row)
 
-pub settled-judged : (L : Listed) (k grown : Book) (value : ℕ) (r : Applied) → Grows L grown → Settled k grown value r → Judged L value k r
-settled-judged L k grown value r g (none x e) = refused (λ p. x (g .onward .plans (plan-one 2 L (p .0) (jobs-of grown) (written L) (p .1) (g .onward .reads) (p .2)))) e
-settled-judged L k grown value r g (fits row t e) = rw e (told-judged L value k _ refl (record {
+abbrev pub with-latest : Book → List ℕ → Book
+with-latest k row = record { size = k .size; start = k .start; latest = row; before = k .before }
+
+-- the grown book, tightened, is accepted
+pub tight-judged : (L : Listed) (k grown : Book) (told value : ℕ) (row : List ℕ) → told ≡ value → Grows L grown → Tight grown row → Judged L value k (acceptance (with-latest grown row) told)
+tight-judged L k grown told value row e g t = told-judged L value k _ (ap Accepted e) (record {
   shaped = record {
     few = g .shaped .few;
     starts = g .shaped .starts;
@@ -108,7 +108,22 @@ settled-judged L k grown value r g (fits row t e) = rw e (told-judged L value k 
   };
   limited = g .limited;
   holds = g .onward .holds (λ i. getD row i 0) (t .latest (g .onward .early) (g .onward .earliest));
-}))
+})
+
+module _ (L : Listed) (k grown : Book) (value : ℕ) (row : List ℕ) (fits : Bool) (g : Grows L grown) (t : Tightens (grown .size) (grown .start) (grown .before) (grown .latest) row fits) where
+  -- a row that the engine gave back is taken
+  pub fits-judged : (told : ℕ) → told ≡ value → fits ≡ true → Judged L value k (acceptance (with-latest grown row) told)
+  fits-judged told e y = tight-judged L k grown told value row e g (record { size = t .length; rest = λ i l. t .rest y i l ∙ g .shaped .latest-rest i l; latest = t .latest y })
+
+  -- or the request is refused
+  pub none-judged : (r : Applied) → r ≡ refusal k 4 → fits ≡ false → Judged L value k r
+  none-judged r e n = refused (λ p. t .none n (g .onward .plans (plan-one 2 L (p .0) (jobs-of grown) (written L) (p .1) (g .onward .reads) (p .2)))) e
+
+-- an entry stored and put back
+pub set-back : (l : List ℕ) (k v : ℕ) → set (set l k v) k (getD l k 0) ≡ l
+set-back [] k v = refl
+set-back (x ∷ xs) zero v = refl
+set-back (x ∷ xs) (suc k) v = ap (λ (l : List ℕ). x ∷ l) (set-back xs k v)
 
 -- a stored entry, as a row
 set-put : (l : List ℕ) (k v : ℕ) → k < length l → (λ i. getD (set l k v) i 0) ≡ put (λ i. getD l i 0) k v

@@ -4,7 +4,6 @@ pub mod Tighten
 pub mod Tables
 pub mod Early
 pub mod Lower
-pub mod Book
 pub mod Choice
 pub mod Layout
 pub mod Planned

@@ -20,13 +20,17 @@ use Rattle.planner.specs.Told.{Told, Made, nothing-listed}
 abbrev pub Planned : Listed → Type 0
 Planned L = (J : Jobs) × Reads L J × HasPlan 2 J (written L)
 
+-- a book left, and an answer
+abbrev pub answered : Book → Answer → Applied
+answered k answer = record { book = k; answer = answer }
+
 -- refused with a number and 0, and the same book (01, Numbers of refusal: "All of them leave book .. untouched")
 abbrev pub refusal : Book → ℕ → Applied
-refusal k number = record { book = k; answer = Refused number 0 }
+refusal k number = answered k (Refused number 0)
 
 -- accepted with a value
 abbrev pub acceptance : Book → ℕ → Applied
-acceptance k value = record { book = k; answer = Accepted value }
+acceptance k value = answered k (Accepted value)
 
 -- accepted: the value, and a book that holds the enlarged list (01, Requests on a book)
 pub record Grown (L : Listed) (value : ℕ) (r : Applied) : Type 0 where
@@ -58,7 +62,7 @@ Outcome L k (Earlier j d) =
 abbrev pub Outcomes : Book → Request → Applied → Type 0
 Outcomes k q r = (L : Listed) → Told k L → Outcome L k q r
 
--- what apply promises; `made` follows from the rest, and serves the next call
+-- what apply and amend promise; `made` follows from the rest, and serves the next call
 pub record Applies (k : Book) (q : Request) (r : Applied) : Type 0 where
   pub outcome : (L : Listed) → Told k L → Outcome L k q r
   pub made : Made (r .book)

@@ -11,6 +11,10 @@ use Rattle.schedule.specs.Book.{Holds}
 use Rattle.planner.specs.declared.book.Book.{Book}
 use Rattle.planner.specs.Sets.{has}
 
+-- the book that lies in four parts
+abbrev pub held : ℕ → List ℕ → List ℕ → List ℕ → Book
+held size start latest before = record { size = size; start = start; latest = latest; before = before }
+
 -- the jobs that rows spell: a precedes b where a is in set b (01, Requests on a book: "starts .. and which job precedes which")
 abbrev pub jobs-in : ℕ → List ℕ → List ℕ → Jobs
 jobs-in size start before = record { size = size; start = λ i. getD start i 0; before = λ a b. has (getD before b 0) a }

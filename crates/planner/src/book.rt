@@ -4,10 +4,8 @@ use crate::refusal::Answer;
 use crate::sets;
 use crate::tighten;
 use schedule::JobIndex;
-ghost use mathlib.Core.Path.{_≡_};
-ghost use Rattle.planner.specs.Told.{Told, Made, nothing-listed};
-ghost use Rattle.planner.specs.Outcome.{Outcomes, Applies, refusal, acceptance};
-ghost use Rattle.planner.specs.Inner.Book.{Ready, Settled};
+ghost use Rattle.planner.specs.Told.{Told, Made, held, nothing-listed};
+ghost use Rattle.planner.specs.Outcome.{Outcomes, Applies, answered};
 
 // Starts, latest times and which job precedes which: row b of `before` is the set of jobs that precede job b.
 pub struct Book {
@@ -43,123 +41,148 @@ pub fn open() -> Book
     }
 }
 
-// The one entry for requests.
+// A request on a book taken and given back.
 pub fn apply(book: Book, request: Request) -> Applied
     requires { ⌜ Made book ⌝ }
     ensures { λ r. ⌜ Applies book request r ⌝ }
 {
+    let mut size = book.size;
+    let mut start = book.start;
+    let mut latest = book.latest;
+    let mut before = book.before;
+    let answer = amend(&mut size, &mut start, &mut latest, &mut before, request);
+    let next = Book {
+        size,
+        start,
+        latest,
+        before,
+    };
+    Applied { book: next, answer }
+}
+
+// The one entry for requests: the book lies in its four parts, and is changed in its place.
+pub fn amend(
+    size: &mut usize,
+    start: &mut [u16; 64],
+    latest: &mut [u16; 64],
+    before: &mut [u64; 64],
+    request: Request,
+) -> Answer
+    requires { ⌜ Made (held (now size) (now start) (now latest) (now before)) ⌝ }
+    ensures { λ r. ⌜ Applies (held (now (size .entry)) (now (start .entry)) (now (latest .entry)) (now (before .entry))) request (answered (held (now (size .exit)) (now (start .exit)) (now (latest .exit)) (now (before .exit))) r) ⌝ }
+{
     match request {
-        Request::Job(start, deadline) => add_job(book, start, deadline),
-        Request::Before(first, second) => add_order(book, first, second),
-        Request::Earlier(job, deadline) => draw_in(book, job, deadline),
+        Request::Job(begin, deadline) => add_job(size, start, latest, before, begin, deadline),
+        Request::Before(first, second) => add_order(*size, start, latest, before, first, second),
+        Request::Earlier(job, deadline) => draw_in(*size, start, latest, before, job, deadline),
     }
 }
 
-fn add_job(book: Book, start: u16, deadline: u16) -> Applied
-    requires { ⌜ Made book ⌝ }
-    ensures { λ r. ⌜ Outcomes book (Request.Job start deadline) r ⌝ }
+fn add_job(
+    size: &mut usize,
+    start: &mut [u16; 64],
+    latest: &mut [u16; 64],
+    before: &[u64; 64],
+    begin: u16,
+    deadline: u16,
+) -> Answer
+    requires { ⌜ Made (held (now size) (now start) (now latest) (now before)) ⌝ }
+    ensures { λ r. ⌜ Outcomes (held (now (size .entry)) (now (start .entry)) (now (latest .entry)) (now (before .entry))) (Request.Job begin deadline) (answered (held (now (size .exit)) (now (start .exit)) (now (latest .exit)) (now (before .entry))) r) ⌝ }
 {
-    let size = book.size;
-    if size >= 64 {
-        return refused(book, 1);
+    let new = *size;
+    if new >= 64 {
+        return Answer::Refused(1, 0);
     }
-    if start > 4095 {
-        return refused(book, 2);
+    if begin > 4095 {
+        return Answer::Refused(2, 0);
     }
     if deadline > 4096 {
-        return refused(book, 2);
+        return Answer::Refused(2, 0);
     }
-    if deadline <= start {
-        return refused(book, 3);
+    if deadline <= begin {
+        return Answer::Refused(3, 0);
     }
-    let mut grown = book;
-    grown.start[size] = start;
-    grown.latest[size] = deadline;
-    grown.size = size + 1;
-    settled(book, grown, size)
+    let old = start[new];
+    start[new] = begin;
+    let mut row = *latest;
+    row[new] = deadline;
+    if tighten::tighten(new + 1, start, before, &mut row) {
+        *size = new + 1;
+        *latest = row;
+        return Answer::Accepted(new);
+    }
+    start[new] = old;
+    Answer::Refused(4, 0)
 }
 
-fn add_order(book: Book, first: JobIndex, second: JobIndex) -> Applied
-    requires { ⌜ Made book ⌝ }
-    ensures { λ r. ⌜ Outcomes book (Request.Before first second) r ⌝ }
+fn add_order<'a>(
+    size: usize,
+    start: &'a [u16; 64],
+    latest: &mut [u16; 64],
+    before: &mut [u64; 64],
+    first: JobIndex,
+    second: JobIndex,
+) -> Answer
+    requires { ⌜ Made (held size (now start) (now latest) (now before)) ⌝ }
+    ensures { λ r. ⌜ Outcomes (held size (now (start .entry)) (now (latest .entry)) (now (before .entry))) (Request.Before first second) (answered (held size (now (start .entry)) (now (latest .exit)) (now (before .exit))) r) ⌝ }
 {
-    let size = book.size;
     let a = first.0;
     let b = second.0;
     if a >= size {
-        return refused(book, 5);
+        return Answer::Refused(5, 0);
     }
     if b >= size {
-        return refused(book, 5);
+        return Answer::Refused(5, 0);
     }
     if a == b {
-        return refused(book, 6);
+        return Answer::Refused(6, 0);
     }
-    if sets::has(book.before[a], second) {
-        return refused(book, 6);
+    if sets::has(before[a], second) {
+        return Answer::Refused(6, 0);
     }
-    if sets::has(book.before[b], first) {
-        return accepted(book, 0);
+    if sets::has(before[b], first) {
+        return Answer::Accepted(0);
     }
-    let mut rows = book.before;
+    let mut rows = *before;
     chains::link(&mut rows, first, second);
-    let mut grown = book;
-    grown.before = rows;
-    settled(book, grown, 0)
+    let mut row = *latest;
+    if tighten::tighten(size, start, &rows, &mut row) {
+        *latest = row;
+        *before = rows;
+        return Answer::Accepted(0);
+    }
+    Answer::Refused(4, 0)
 }
 
-fn draw_in(book: Book, job: JobIndex, deadline: u16) -> Applied
-    requires { ⌜ Made book ⌝ }
-    ensures { λ r. ⌜ Outcomes book (Request.Earlier job deadline) r ⌝ }
+fn draw_in<'a>(
+    size: usize,
+    start: &'a [u16; 64],
+    latest: &mut [u16; 64],
+    before: &'a [u64; 64],
+    job: JobIndex,
+    deadline: u16,
+) -> Answer
+    requires { ⌜ Made (held size (now start) (now latest) (now before)) ⌝ }
+    ensures { λ r. ⌜ Outcomes (held size (now (start .entry)) (now (latest .entry)) (now (before .entry))) (Request.Earlier job deadline) (answered (held size (now (start .entry)) (now (latest .exit)) (now (before .entry))) r) ⌝ }
 {
-    let size = book.size;
     let j = job.0;
     if j >= size {
-        return refused(book, 5);
+        return Answer::Refused(5, 0);
     }
     if deadline > 4096 {
-        return refused(book, 2);
+        return Answer::Refused(2, 0);
     }
-    if deadline <= book.start[j] {
-        return refused(book, 3);
+    if deadline <= start[j] {
+        return Answer::Refused(3, 0);
     }
-    if deadline >= book.latest[j] {
-        return accepted(book, 0);
+    if deadline >= latest[j] {
+        return Answer::Accepted(0);
     }
-    let mut grown = book;
-    grown.latest[j] = deadline;
-    settled(book, grown, 0)
-}
-
-fn refused(book: Book, number: u8) -> Applied
-    ensures { λ r. ⌜ r ≡ refusal book number ⌝ }
-{
-    Applied {
-        book: book,
-        answer: Answer::Refused(number, 0),
+    let mut row = *latest;
+    row[j] = deadline;
+    if tighten::tighten(size, start, before, &mut row) {
+        *latest = row;
+        return Answer::Accepted(0);
     }
-}
-
-fn accepted(book: Book, value: usize) -> Applied
-    ensures { λ r. ⌜ r ≡ acceptance book value ⌝ }
-{
-    Applied {
-        book: book,
-        answer: Answer::Accepted(value),
-    }
-}
-
-// The grown book tightened, or the old one with refusal 4.
-fn settled(book: Book, grown: Book, value: usize) -> Applied
-    requires { ⌜ Ready grown ⌝ }
-    ensures { λ r. ⌜ Settled book grown value r ⌝ }
-{
-    let size = grown.size;
-    let mut row = grown.latest;
-    if tighten::tighten(size, &grown.start, &grown.before, &mut row) {
-        let mut next = grown;
-        next.latest = row;
-        return accepted(next, value);
-    }
-    refused(book, 4)
+    Answer::Refused(4, 0)
 }

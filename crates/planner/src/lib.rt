@@ -13,6 +13,7 @@ mod times;
 pub use book::Applied;
 pub use book::Book;
 pub use book::Request;
+pub use book::amend;
 pub use book::apply;
 pub use book::open;
 pub use list::judge;

@@ -1,84 +1,95 @@
 -- `planner::book::add_job` meets its contract.
 -- Assumes nothing.
-use mathlib.Core.Path.{subst}
+use mathlib.Core.Path.{refl, ap}
+use mathlib.Core.List.{List}
 use mathlib.Core.Logic.{inl, inr, ⊎-elim}
+use Prim.Native.Nat.{ℕ}
 use native.Mathlib.Omega.{arith}
-use Rattle.schedule.specs.Listed.{with-job}
+use Rattle.planner.specs.Told.{held}
 use Rattle.planner.specs.Unless.{refused, passed}
-use Rattle.planner.specs.Outcome.{Judged}
-use Rattle.planner.proofs.Step.{size-is, job-grows, grows-ready, settled-judged}
+use Rattle.planner.specs.Outcome.{refusal}
+use Rattle.planner.proofs.Step.{size-is, job-grows, grows-ready, fits-judged, none-judged, set-back}
 use borrow.Author.Needs.{needs}
 use Rattle.planner.proofs.book.add_job.Statement.{statement}
 use Rattle.planner.proofs.book.add_job.Tie as tie
-use Rattle.planner.proofs.book.add_job.Reads as reads
-use Rattle.planner.proofs.book.add_job.Lts as lts
-use Rattle.planner.proofs.book.refused.Reads as refused-reads
-use Rattle.planner.proofs.book.settled.Reads as settled-reads
-
-refused-requires : tie.Need-refused-requires
-refused-requires c κs = search needs
 
 returns : tie.Need-returns
-returns c = λ L t. refused (omega (arith, size-is L _ t)) (c .refused .ensures)
-
-refused-requires-2 : tie.Need-refused-requires-2
-refused-requires-2 c κs = search needs
+returns c = λ L t. refused (omega (arith, size-is L _ t)) refl
 
 returns-2 : tie.Need-returns-2
-returns-2 c = λ L t. passed (λ f. omega (arith, size-is L _ t)) (refused (inl (omega arith)) (c .refused2 .ensures))
-
-refused-requires-3 : tie.Need-refused-requires-3
-refused-requires-3 c κs = search needs
+returns-2 c = λ L t. passed (λ f. omega (arith, size-is L _ t)) (refused (inl (omega arith)) refl)
 
 returns-3 : tie.Need-returns-3
-returns-3 c = λ L t. passed (λ f. omega (arith, size-is L _ t)) (refused (inr (omega arith)) (c .refused3 .ensures))
-
-refused-requires-4 : tie.Need-refused-requires-4
-refused-requires-4 c κs = search needs
+returns-3 c = λ L t. passed (λ f. omega (arith, size-is L _ t)) (refused (inr (omega arith)) refl)
 
 returns-4 : tie.Need-returns-4
-returns-4 c = λ L t. passed (λ f. omega (arith, size-is L _ t)) (passed (λ f. ⊎-elim (λ x. omega arith) (λ x. omega arith) f) (refused (omega arith) (c .refused4 .ensures)))
+returns-4 c = λ L t. passed (λ f. omega (arith, size-is L _ t)) (passed (λ f. ⊎-elim (λ x. omega arith) (λ x. omega arith) f) (refused (omega arith) refl))
 
-mul-grown : tie.Need-mul-grown
-mul-grown c = search needs
+mul-old : tie.Need-mul-old
+mul-old c = search needs
 
-element-write-grown : tie.Need-element-write-grown
-element-write-grown c = search needs
+element-copy-out-old : tie.Need-element-copy-out-old
+element-copy-out-old c = search needs
 
-mul-grown-2 : tie.Need-mul-grown-2
-mul-grown-2 c = search needs
+mul-start : tie.Need-mul-start
+mul-start c = search needs
 
-element-write-grown-2 : tie.Need-element-write-grown-2
-element-write-grown-2 c = search needs
+element-write-start : tie.Need-element-write-start
+element-write-start c = search needs
 
-add-grown : tie.Need-add-grown
-add-grown c = search needs
+mul-row : tie.Need-mul-row
+mul-row c = search needs
 
-settled-requires : tie.Need-settled-requires
-settled-requires c κs = grows-ready _ _ (job-grows (c .before .before .before .before .pre .0) _ (c .before .before .before .before .pre .1) _ _ (omega arith) (omega arith) (omega arith))
+array-write-row : tie.Need-array-write-row
+array-write-row c = search needs
+
+add-tighten : tie.Need-add-tighten
+add-tighten c = search needs
+
+tighten-requires : tie.Need-tighten-requires
+tighten-requires c κs =
+    let s = c .before .before .before .before .before .before .before .before .before in
+    grows-ready _ _ (job-grows (s .pre .0) _ (s .pre .1) _ _ (omega arith) (omega arith) (omega arith))
+
+add-size : tie.Need-add-size
+add-size c = search needs
 
 returns-5 : tie.Need-returns-5
 returns-5 c = λ L t.
     passed (λ f. omega (arith, size-is L _ t)) (passed (λ f. ⊎-elim (λ x. omega arith) (λ x. omega arith) f) (passed (λ f. omega arith)
-    (subst (λ n. Judged (with-job L (c .before .before .before .before .before .args .start) (c .before .before .before .before .before .args .deadline)) n (c .before .before .before .before .before .args .book) (c .settled .result)) (size-is L _ t)
-    (settled-judged _ _ _ _ _ (job-grows L _ t _ _ (omega arith) (omega arith) (omega arith)) (c .settled .ensures)))))
+    (fits-judged _ _ _ _ _ _ (job-grows L _ t _ _ (omega arith) (omega arith) (omega arith)) (c .before .tighten .ensures) _ (size-is L _ t) (c .if5 .taken))))
+
+mul-start-2 : tie.Need-mul-start-2
+mul-start-2 c = search needs
+
+element-write-start-2 : tie.Need-element-write-start-2
+element-write-start-2 c = search needs
+
+returns-6 : tie.Need-returns-6
+returns-6 c = λ L t.
+    let a = c .before .before .before .before .before .before .before .before .before .before .before .args in
+    passed (λ f. omega (arith, size-is L _ t)) (passed (λ f. ⊎-elim (λ x. omega arith) (λ x. omega arith) f) (passed (λ f. omega arith)
+    (none-judged _ _ _ _ _ _ (job-grows L _ t _ _ (omega arith) (omega arith) (omega arith)) (c .before .tighten .ensures) _
+    (ap (λ (row : List ℕ). refusal (held (a .size .now) row (a .latest .now) (a .before .now)) 4) (set-back (a .start .now) (a .size .now) (a .begin))) (c .if5 .left))))
 
 pub add-job-spec : {M : Type 1} → statement M
 add-job-spec =
     tie.close
     (tie.spec
-    refused-requires
     returns
-    refused-requires-2
     returns-2
-    refused-requires-3
     returns-3
-    refused-requires-4
     returns-4
-    mul-grown
-    element-write-grown
-    mul-grown-2
-    element-write-grown-2
-    add-grown
-    settled-requires
-    returns-5)
+    mul-old
+    element-copy-out-old
+    mul-start
+    element-write-start
+    mul-row
+    array-write-row
+    add-tighten
+    tighten-requires
+    add-size
+    returns-5
+    mul-start-2
+    element-write-start-2
+    returns-6)
