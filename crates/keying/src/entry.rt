@@ -55,10 +55,10 @@ pub fn with(entry: Entry, word: Word) -> Entry
 {
     let size = word.size;
     let filled = entry.filled;
-    let mut longer = entry;
     if size == 0 {
-        return longer;
+        return entry;
     }
+    let mut longer = entry;
     if filled == 0 {
         longer.filled = 1;
         longer.mark = word::mark(word);
