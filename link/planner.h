@@ -75,7 +75,7 @@ static inline uint8_t planner_draw_in(struct planner_book *book, uint16_t job, u
 }
 
 /* A whole list and no book: `pairs` holds first, second, first, second..; `latest` receives the latest times, and its
- * entries beyond the number of jobs stay. *value is 0. 7, 1; then 2, 3 job by job; then 5, 6 pair by pair; then 4. */
+ * entries beyond the number of jobs stay. *value is 0. 7, 1; then 2, 3 job by job; then 5 for all pairs; then 6; then 4. */
 static inline uint8_t planner_judge(const uint16_t *starts, size_t starts_length, const uint16_t *deadlines,
                                     size_t deadlines_length, const uint16_t *pairs, size_t pairs_length,
                                     uint16_t *latest, size_t latest_length, size_t *value) {

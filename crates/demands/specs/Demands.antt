@@ -1,10 +1,10 @@
 -- The customer's three demands, of what the public calls promise: apply (`Applies`), judge (`Judges`), plan (`Plans`), place (`Places`),
--- read (`ReadsRecord`) and write (`WritesBook`). That a call ends is what a proved function means.
+-- read (`ReadsRecord`), read_file (`ReadsFile`) and write (`WritesBook`). That a call ends is what a proved function means.
 -- Assumes nothing.
 use mathlib.Core.List.{List}
-use mathlib.Core.Logic.{_↔_}
+use mathlib.Core.Logic.{_↔_, _⊎_}
 use mathlib.Core.Path.{_≡_}
-use Prim.Native.Nat.{ℕ, _+_, _*_, _≤_, _<_}
+use Prim.Native.Nat.{ℕ, _+_, _*_, _/_, _≤_, _<_}
 use lib.ListN.{length, getD}
 use Rattle.schedule.specs.Jobs.{Jobs}
 use Rattle.schedule.specs.Plan.{Valid, Meets, HasPlan, finish}
@@ -25,6 +25,7 @@ use Rattle.planner.specs.Planned.{Plans, Places}
 use Rattle.jobfile.specs.declared.reader.Step.{Step}
 use Rattle.jobfile.specs.declared.reader.Event.the-variants.{Request as Asked, Stopped}
 use Rattle.jobfile.specs.Read.{ReadsRecord}
+use Rattle.jobfile.specs.File.{ReadsFile}
 use Rattle.jobfile.specs.Write.{WritesBook}
 use Rattle.jobfile.specs.RoundTrip.{ReadsBack}
 
@@ -42,6 +43,12 @@ pub record Demand1 : Type 0 where
       Numbered n × (r .book ≡ k) × (r .at ≡ at + 6)
   pub record-stopped : (k : Book) (file : List ℕ) (at : ℕ) (r : Step) (n v : ℕ) → Made k → ReadsRecord k file at r → r .event ≡ Stopped n v →
       Numbered n × (r .book ≡ k) × (r .at ≡ at)
+  -- a whole file is single reads one after the other (`ReadsFile`), and each of them is as above; 8 and 9 come before the first
+  pub file-stopped : (k : Book) (file old new : List ℕ) (r : Step) (n v : ℕ) → Made k → ReadsFile k file old new r → r .event ≡ Stopped n v →
+      Numbered n × ((n ≡ 8) ⊎ (n ≡ 9) → (r .book ≡ k) × (new ≡ old))
+  -- a lent byte gets its record's number, 0 where it is accepted; those beyond the records answered stay
+  pub file-answers : (k : Book) (file old new : List ℕ) (r : Step) (i : ℕ) → Made k → ReadsFile k file old new r →
+      (i < r .at / 6 → (getD new i 0 ≡ 0) ⊎ Numbered (getD new i 0)) × (r .at / 6 ≤ i → getD new i 0 ≡ getD old i 0)
   pub written : (k : Book) (old new : List ℕ) (n v : ℕ) → WritesBook k old new (Refused n v) → Numbered n × (new ≡ old)
 
 -- ---- 2. "A plan it hands out is a valid two-processor schedule .. and the finishing time told is that plan's."

@@ -11,7 +11,7 @@ use native.Mathlib.Nat.{lt-of-not-le}
 use lib.Dec.{eqb, leb}
 use borrow.Author.Tests.{le-leb, lt-leb}
 use Rattle.keying.specs.Text.{digit, digits, counted, decimal, mark, known, blank, field, fields, judge, Page, ended, fresh, says, turn}
-use Rattle.keying.specs.Inner.Machine.{number-with, word-with, word-mark, entry-with, numbered, entry-says, no-word, no-entry, blank-reader, reader-says, reader-after}
+use Rattle.keying.specs.Inner.Machine.{number-with, word-with, word-mark, entry-with, numbered, fields-say, entry-says, no-word, no-entry, blank-reader, reader-says, reader-after}
 use Rattle.keying.specs.declared.word.Word.{Word}
 use Rattle.keying.specs.declared.entry.Entry.{Entry}
 use Rattle.keying.specs.declared.entry.Said.{Said}
@@ -132,7 +132,7 @@ field-shown w next = go (digits w) (decimal w) (fits (decimal w))
     go true n (inr h) = simp (lt-leb n 65535 h)
 
 judge-shown : (words : List (List ℕ)) → entry-says (summed words) ≡ judge words
-unfolding entry-says summed judge fields
+unfolding entry-says fields-say summed judge fields
 judge-shown [] = refl
 judge-shown (m ∷ []) = refl
 judge-shown (m ∷ a ∷ []) = rw (field-shown a (λ x. Wrong MissingField))

@@ -3,7 +3,7 @@ use crate::word;
 use crate::word::Word;
 ghost use mathlib.Core.Path.{_≡_};
 ghost use Rattle.keying.specs.Text.{known};
-ghost use Rattle.keying.specs.Inner.Machine.{no-entry, entry-with, entry-says};
+ghost use Rattle.keying.specs.Inner.Machine.{no-entry, entry-with, fields-say, entry-says};
 
 // A record of a job file: three 16-bit numbers.
 pub struct Record {
@@ -58,36 +58,24 @@ pub fn with(entry: Entry, word: Word) -> Entry
     if size == 0 {
         return entry;
     }
+    let mut longer = entry;
     if filled == 0 {
-        return Entry {
-            filled: 1,
-            mark: word::mark(word),
-            first: entry.first,
-            second: entry.second,
-        };
+        longer.filled = 1;
+        longer.mark = word::mark(word);
+        return longer;
     }
     if filled == 1 {
-        return Entry {
-            filled: 2,
-            mark: entry.mark,
-            first: word.number,
-            second: entry.second,
-        };
+        longer.filled = 2;
+        longer.first = word.number;
+        return longer;
     }
     if filled == 2 {
-        return Entry {
-            filled: 3,
-            mark: entry.mark,
-            first: entry.first,
-            second: word.number,
-        };
+        longer.filled = 3;
+        longer.second = word.number;
+        return longer;
     }
-    Entry {
-        filled: 4,
-        mark: entry.mark,
-        first: entry.first,
-        second: entry.second,
-    }
+    longer.filled = 4;
+    longer
 }
 
 // Its first mistake from left to right, or the record that it tells.
@@ -96,14 +84,23 @@ pub fn judged(entry: Entry) -> Said
 {
     let filled = entry.filled;
     let mark = entry.mark;
-    let first = entry.first;
-    let second = entry.second;
     if filled == 0 {
         return Said::Nothing;
     }
     if !is_known(mark) {
         return Said::Wrong(Slip::UnknownWord);
     }
+    fields(entry)
+}
+
+// What its fields say, once its first word is known.
+fn fields(entry: Entry) -> Said
+    ensures { λ r. ⌜ r ≡ fields-say entry ⌝ }
+{
+    let filled = entry.filled;
+    let mark = entry.mark;
+    let first = entry.first;
+    let second = entry.second;
     if filled == 1 {
         return Said::Wrong(Slip::MissingField);
     }

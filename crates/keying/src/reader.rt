@@ -72,28 +72,18 @@ pub fn after(reader: Reader, byte: u8) -> Reader
     if byte == COMMA {
         return fresh(line);
     }
+    let mut next = reader;
     if byte == HASH {
-        return Reader {
-            line: line,
-            remark: true,
-            entry: entry,
-            word: word,
-        };
+        next.remark = true;
+        return next;
     }
     if is_blank(byte) {
-        return Reader {
-            line: line,
-            remark: false,
-            entry: entry::with(entry, word),
-            word: word::none(),
-        };
+        next.entry = entry::with(entry, word);
+        next.word = word::none();
+        return next;
     }
-    Reader {
-        line: line,
-        remark: false,
-        entry: entry,
-        word: word::with(word, byte),
-    }
+    next.word = word::with(word, byte);
+    next
 }
 
 // A space, a tab or a carriage return.

@@ -37,16 +37,17 @@ entry-with e w =
 unfoldable pub numbered : ℕ → Said → Said
 numbered n next = cond (leb n 65536) (cond (leb n 65535) next (Wrong TooLarge)) (Wrong NotNumber)
 
-unfoldable pub entry-says : Entry → Said
-entry-says e =
-    cond (eqb (e .filled) 0) Nothing
-    (cond (known (e .mark))
-    (cond (eqb (e .filled) 1) (Wrong MissingField)
+-- once the word is known
+unfoldable pub fields-say : Entry → Said
+fields-say e =
+    cond (eqb (e .filled) 1) (Wrong MissingField)
     (numbered (e .first)
     (cond (eqb (e .filled) 2) (Wrong MissingField)
     (numbered (e .second)
-    (cond (eqb (e .filled) 3) (Told (record { mark = e .mark; first = e .first; second = e .second })) (Wrong ExtraField))))))
-    (Wrong UnknownWord))
+    (cond (eqb (e .filled) 3) (Told (record { mark = e .mark; first = e .first; second = e .second })) (Wrong ExtraField)))))
+
+unfoldable pub entry-says : Entry → Said
+entry-says e = cond (eqb (e .filled) 0) Nothing (cond (known (e .mark)) (fields-say e) (Wrong UnknownWord))
 
 abbrev pub no-word : Word
 no-word = record { size = 0; high = 0; low = 0; number = 0 }
