@@ -6,7 +6,6 @@ mod tables;
 
 use crate::sets;
 use crate::times::wide;
-use schedule::JobIndex;
 ghost use mathlib.Core.Path.{_≡_};
 ghost use Prim.Native.Nat.{ℕ, _<_, _≤_};
 ghost use lib.Dec.{T};
@@ -16,7 +15,7 @@ ghost use Rattle.planner.specs.Sets.{has};
 ghost use Rattle.planner.specs.Told.{row-in};
 ghost use Rattle.planner.specs.Inner.Tighten.{Tightenable, Tightens};
 ghost use Rattle.planner.specs.Inner.Tables.{Steps, Known};
-ghost use Rattle.planner.specs.Inner.Lower.{DueBy, DueBelow, AtD, Swept, Moves, Settles};
+ghost use Rattle.planner.specs.Inner.Lower.{DueBy, DueAmong, AtD, Swept, Moves, Settles};
 
 // Which jobs moved; Shut where some job has no time left.
 enum Moved {
@@ -76,7 +75,7 @@ fn settled<'a>(
     }
 }
 
-// Every d of the row, from the greatest down.
+// Every d of the row, from the greatest down: while nothing moves, only jobs due before can be due next.
 fn pass<'a>(
     size: usize,
     order: &'a [u8; 64],
@@ -86,16 +85,18 @@ fn pass<'a>(
     rank: &'a [u8; 64],
     row: &mut [u16; 64],
 ) -> Moved
-    requires { ⌜ (size ≤ 64) × (length (now row) ≡ 64) × ((k : ℕ) → k < size → getD (now order) k 0 < size) × Steps (now times) × ((i : ℕ) → i < size → getD (now rank) i 0 < 65) × ((i : ℕ) → i < size → getD (now row) i 0 < 65536) ⌝ }
+    requires { ⌜ (size ≤ 64) × (length (now row) ≡ 64) × ((k : ℕ) → k < size → getD (now order) k 0 < size) × Steps (now times) × ((i : ℕ) → i < size → getD (now rank) i 0 < 65) × ((i : ℕ) → i < size → getD (now row) i 0 < 65536) × ((J : Jobs) × (early : ℕ → ℕ) × (J .size ≡ size) × Known J early (now followers) (now times) (now late) (now rank)) ⌝ }
     ensures { λ r. ⌜ (length (now (row .exit)) ≡ 64) × ((J : Jobs) (early : ℕ → ℕ) → J .size ≡ size → Known J early (now (followers .entry)) (now (times .entry)) (now (late .entry)) (now (rank .entry)) → Moves J early (now (row .entry)) (now (row .exit)) (Swept J early (row-in (now (row .entry)))) r) ⌝ }
 {
     let mut all: u64 = 0;
     let mut limit: usize = 65536;
+    let mut among = sets::below(size);
     loop {
-        let due = due_below(limit, size, row);
+        let due = due_below(limit, among, row);
         if due.jobs == 0 {
             return Moved::Jobs(all);
         }
+        among = due.jobs;
         match lower_at(due.d, due.jobs, followers, times, late, rank, row) {
             Moved::Jobs(moved) => {
                 if moved != 0 {
@@ -103,6 +104,7 @@ fn pass<'a>(
                         return Moved::Shut;
                     }
                     all = all | moved;
+                    among = sets::below(size);
                 }
             }
             Moved::Shut => {
@@ -113,28 +115,29 @@ fn pass<'a>(
     }
 }
 
-// The jobs whose time is below a limit, and the greatest such time.
+// The jobs of a set whose time is below a limit, and the greatest such time.
 struct Due {
     d: usize,
     jobs: u64,
 }
 
-fn due_below(limit: usize, size: usize, row: &[u16; 64]) -> Due
-    requires { ⌜ size ≤ 64 ⌝ }
-    ensures { λ r. ⌜ DueBelow limit size (now (row .entry)) r ⌝ }
+fn due_below(limit: usize, among: u64, row: &[u16; 64]) -> Due
+    ensures { λ r. ⌜ DueAmong limit among (now (row .entry)) r ⌝ }
 {
     let mut d: usize = 0;
     let mut jobs: u64 = 0;
-    let mut i: usize = 0;
-    while i < size {
+    let mut rest = among;
+    while rest != 0 {
+        let job = sets::first(rest);
+        let i = job.0;
         let time = wide(row[i]);
         if time < limit {
-            jobs = sets::with(jobs, JobIndex(i));
+            jobs = sets::with(jobs, job);
             if d < time {
                 d = time;
             }
         }
-        i += 1;
+        rest = sets::rest(rest);
     }
     Due { d, jobs }
 }

@@ -84,7 +84,13 @@ AtD J early row d = (i : ℕ) → i < J .size → row i ≤ d → Clear J early 
 abbrev pub Swept : Jobs → (ℕ → ℕ) → (ℕ → ℕ) → Type 0
 Swept J early row = (k : ℕ) → k < J .size → AtD J early row (row k)
 
--- the jobs whose time is below a limit, and the greatest such time
+-- the jobs of a set whose time is below a limit, and the greatest such time
+pub record DueAmong (limit among : ℕ) (row : List ℕ) (r : Due) : Type 0 where
+  pub jobs : (j : ℕ) → has (r .jobs) j ≡ (has among j && ltb (getD row j 0) limit)
+  pub top : (j : ℕ) → T (has (r .jobs) j) → getD row j 0 ≤ r .d
+  pub some : (r .jobs ≡ 0 → ⊥) → r .d < limit
+
+-- the same of all jobs of the row
 pub record DueBelow (limit size : ℕ) (row : List ℕ) (r : Due) : Type 0 where
   pub jobs : (j : ℕ) → has (r .jobs) j ≡ (ltb j size && ltb (getD row j 0) limit)
   pub top : (j : ℕ) → T (has (r .jobs) j) → getD row j 0 ≤ r .d

@@ -1,21 +1,26 @@
 -- `planner::tighten::due_below` meets its contract.
 -- Assumes nothing.
 use mathlib.Core.Logic.{⊎-elim}
-use Prim.Native.Nat.{_-_}
 use native.Mathlib.Omega.{arith}
-use borrow.Author.Needs.{needs}
+use Rattle.schedule.specs.Count.{count}
+use Rattle.planner.specs.Sets.{has}
+use Rattle.planner.proofs.Bits.{rest-walk, walk-less}
 use Rattle.planner.proofs.TightenDue.{Gathered, gathered-none, gathered-more, gathered-same, gathered-low, gathered-due}
+use borrow.Author.Needs.{needs}
 use Rattle.planner.proofs.tighten.due_below.Statement.{statement}
 use Rattle.planner.proofs.tighten.due_below.Tie as tie
 
 abbrev Inv-loop : tie.InvT-loop
-Inv-loop limit size row d₀ jobs₀ i₀ d jobs i = Gathered limit size row i d jobs
+Inv-loop limit among row d₀ jobs₀ rest₀ d jobs rest = Gathered limit among row d jobs rest
 
 abbrev μ-loop : tie.MeasureT-loop
-μ-loop limit size row d₀ jobs₀ i₀ d jobs i = size - i
+μ-loop limit among row d₀ jobs₀ rest₀ d jobs rest = count 64 (has rest)
 
 loop-holds : tie.Need-loop-holds Inv-loop μ-loop
 loop-holds c = gathered-none _ _ _
+
+first-requires : tie.Need-first-requires Inv-loop μ-loop
+first-requires c κs = search needs
 
 mul-wide : tie.Need-mul-wide Inv-loop μ-loop
 mul-wide c = search needs
@@ -29,27 +34,30 @@ wide-requires c κs = search needs
 with-requires : tie.Need-with-requires Inv-loop μ-loop
 with-requires c κs = search needs
 
-add-i : tie.Need-add-i Inv-loop μ-loop
-add-i c = search needs
+rest-requires : tie.Need-rest-requires Inv-loop μ-loop
+rest-requires c κs = search needs
 
 loop-less : tie.Need-loop-less Inv-loop μ-loop
-loop-less c = search needs
+loop-less c =
+    let f = c .before .before .before .before .first in
+    walk-less (c .before .before .before .before .before .before .loop .rest) (c .rest .result) (f .result .0) (rest-walk _ _ _ (f .ensures .3) (c .rest .ensures)) (f .ensures .0) (f .ensures .1)
 
 loop-again : tie.Need-loop-again Inv-loop μ-loop
 loop-again c =
-    let p = c .before .before .before .before in
-    let t = c .before .wide .ensures .0 in
+    let p = c .before .before .before .before .before .before in
     let a = p .before .args in
-    let g = p .loop .inv in
+    let f = c .before .before .before .before .first in
+    let r = rest-walk (p .loop .rest) (c .rest .result) (f .result .0) (f .ensures .3) (c .rest .ensures) in
+    let t = c .before .before .wide .ensures .0 in
     ⊎-elim
-    (λ w. rw (w .3, w .4) (gathered-more (a .limit) (a .size) (a .row .now) (p .loop .i) (p .loop .d) (p .loop .jobs) g (search needs) _ (w .1 .result) (omega (arith, t, w .0 .taken)) (w .1 .ensures) (omega (arith, w .2 .taken)) (omega (arith, t)) (w .0 .taken)))
+    (λ w. rw (w .3, w .4) (gathered-more (a .limit) (a .among) (a .row .now) (p .loop .d) (p .loop .jobs) (p .loop .rest) (p .loop .inv) (f .result .0) (c .rest .result) r (f .ensures .1) _ (w .1 .result) (omega (arith, t, w .0 .taken)) (w .1 .ensures) (omega (arith, w .2 .taken)) (omega (arith, t)) (w .0 .taken)))
     (⊎-elim
-    (λ w. rw (w .3, w .4) (gathered-more (a .limit) (a .size) (a .row .now) (p .loop .i) (p .loop .d) (p .loop .jobs) g (search needs) _ (w .1 .result) (omega (arith, t, w .0 .taken)) (w .1 .ensures) (omega arith) (omega (arith, t, w .2 .left)) (gathered-low (a .limit) (a .size) (a .row .now) (p .loop .i) (p .loop .d) (p .loop .jobs) g (omega (arith, t, w .0 .taken)))))
-    (λ w. rw (w .1, w .2) (gathered-same (a .limit) (a .size) (a .row .now) (p .loop .i) (p .loop .d) (p .loop .jobs) g (search needs) (omega (arith, t, w .0 .left)))))
-    (c .if1 .came)
+    (λ w. rw (w .3, w .4) (gathered-more (a .limit) (a .among) (a .row .now) (p .loop .d) (p .loop .jobs) (p .loop .rest) (p .loop .inv) (f .result .0) (c .rest .result) r (f .ensures .1) _ (w .1 .result) (omega (arith, t, w .0 .taken)) (w .1 .ensures) (omega arith) (omega (arith, t, w .2 .left)) (gathered-low (a .limit) (a .among) (a .row .now) (p .loop .d) (p .loop .jobs) (p .loop .rest) (p .loop .inv) (f .result .0) (omega (arith, t, w .0 .taken)))))
+    (λ w. rw (w .1, w .2) (gathered-same (a .limit) (a .among) (a .row .now) (p .loop .d) (p .loop .jobs) (p .loop .rest) (p .loop .inv) (f .result .0) (c .rest .result) r (f .ensures .1) (omega (arith, t, w .0 .left)))))
+    (c .before .if1 .came)
 
 returns : tie.Need-returns Inv-loop μ-loop
-returns c = gathered-due _ _ _ _ _ _ (c .before .loop .inv) (search needs)
+returns c = gathered-due _ _ _ _ _ _ (c .before .loop .inv) (c .loop-test .left)
 
 pub due-below-spec : {M : Type 1} → statement M
 due-below-spec =
@@ -58,11 +66,12 @@ due-below-spec =
     Inv-loop
     μ-loop
     loop-holds
+    first-requires
     mul-wide
     element-copy-out-wide
     wide-requires
     with-requires
-    add-i
+    rest-requires
     loop-less
     loop-again
     returns)

@@ -1,6 +1,7 @@
 -- `planner::tighten::pass` meets its contract.
 -- Assumes nothing.
-use mathlib.Core.Path.{_≡_, sym, subst}
+use mathlib.Core.List.{List}
+use mathlib.Core.Path.{_≡_, refl, sym, subst}
 use Prim.Native.Nat.{ℕ, _≤_}
 use native.Mathlib.Omega.{arith}
 use borrow.Author.Needs.{needs}
@@ -12,28 +13,40 @@ use Rattle.planner.specs.declared.tighten.Moved.the-variants.{Jobs as Th
 use Rattle.planner.specs.Told.{row-in}
 use Rattle.planner.specs.Inner.Tables.{Known}
 use Rattle.planner.specs.Inner.Lower.{DueBelow, Moves, AtD}
-use Rattle.planner.proofs.TightenDue.{due-by, below-job}
+use Rattle.planner.proofs.TightenDue.{Among, among-start, among-next, due-all, due-by, below-job}
 use Rattle.planner.proofs.TightenSink.{Passing, passing-start, passing-still, passing-moved, passing-moves, none-join, or-some}
 use Rattle.planner.proofs.tighten.pass.Statement.{statement}
 use Rattle.planner.proofs.tighten.pass.Tie as tie
 
 abbrev Inv-loop : tie.InvT-loop
-Inv-loop size order followers times late rank row₀ all₀ limit₀ row all limit = (length row ≡ 64) × (limit ≤ 65536) × ((J : Jobs) (early : ℕ → ℕ) → J .size ≡ size → Known J early followers times late rank → Passing J early row₀ row all limit)
+Inv-loop size order followers times late rank row₀ all₀ limit₀ among₀ row all limit among =
+    (length row ≡ 64) × (limit ≤ 65536) × Among size limit row among × ((J : Jobs) (early : ℕ → ℕ) → J .size ≡ size → Known J early followers times late rank → Passing J early row₀ row all limit)
 
 abbrev μ-loop : tie.MeasureT-loop
-μ-loop size order followers times late rank row₀ all₀ limit₀ row all limit = limit
+μ-loop size order followers times late rank row₀ all₀ limit₀ among₀ row all limit among = limit
+
+-- the jobs below the limit, of all jobs
+below : (c : tie.After-due-below Inv-loop μ-loop) (n : ℕ) → n ≡ c .before .before .before .before .args .size → DueBelow (c .before .before .loop .limit) n (c .before .before .loop .row) (c .due-below .result)
+below c n e =
+    let p = c .before .before in
+    rw e (due-all (p .loop .limit) (p .before .before .args .size) (p .loop .row) (p .loop .among) (c .due-below .result) (p .loop .inv .2) (c .due-below .ensures))
 
 -- what moved at this d
-moves : (c : tie.After-known-told Inv-loop μ-loop) (J : Jobs) (early : ℕ → ℕ) → J .size ≡ c .before .before .before .before .before .before .before .before .before .before .args .size → Known J early (c .before .before .before .before .before .before .before .before .before .before .args .followers .now) (c .before .before .before .before .before .before .before .before .before .before .args .times .now) (c .before .before .before .before .before .before .before .before .before .before .args .late .now) (c .before .before .before .before .before .before .before .before .before .before .args .rank .now) →
+moves : (c : tie.After-known-told Inv-loop μ-loop) (J : Jobs) (early : ℕ → ℕ) → J .size ≡ c .before .before .before .before .before .before .before .before .before .before .before .args .size → Known J early (c .before .before .before .before .before .before .before .before .before .before .before .args .followers .now) (c .before .before .before .before .before .before .before .before .before .before .before .args .times .now) (c .before .before .before .before .before .before .before .before .before .before .before .args .late .now) (c .before .before .before .before .before .before .before .before .before .before .before .args .rank .now) →
     Moves J early (c .before .before .before .before .before .before .before .before .before .loop .row) (c .before .before .before .lower-at .last .1 .1 .1 .1 .1 .1 .0) (AtD J early (row-in (c .before .before .before .before .before .before .before .before .before .loop .row)) (c .before .before .before .before .before .before .before .due-below .result .d)) (Those (c .before .moved .given .0 .0))
 moves c J early e k =
     let p = c .before .before .before .before .before .before .before .before .before in
     let due = c .before .before .before .before .before .before .before .due-below in
     subst (λ (r : Moved). Moves J early (p .loop .row) (c .before .before .before .lower-at .last .1 .1 .1 .1 .1 .1 .0) (AtD J early (row-in (p .loop .row)) (due .result .d)) r) (c .before .moved .given .1)
-    (c .before .before .before .lower-at .ensures .1 J early k (due-by (p .loop .limit) (J .size) (p .loop .row) (due .result) (subst (λ (n : ℕ). DueBelow (p .loop .limit) n (p .loop .row) (due .result)) (sym e) (due .ensures)) (c .before .before .before .before .before .if1 .left)))
+    (c .before .before .before .lower-at .ensures .1 J early k (due-by (p .loop .limit) (J .size) (p .loop .row) (due .result) (below (c .before .before .before .before .before .before .before) (J .size) e) (c .before .before .before .before .before .if1 .left)))
+
+below-requires : tie.Need-below-requires Inv-loop μ-loop
+below-requires c κs = search needs
 
 loop-holds : tie.Need-loop-holds Inv-loop μ-loop
-loop-holds c = (c .pre .1, search needs, (λ J early e k. passing-start J early (c .args .row .now) 65536 (λ i l. c .pre .5 i (omega (arith, e)))))
+loop-holds c =
+    let a = c .before .args in
+    (c .before .pre .1, search needs, among-start (a .size) 65536 (a .row .now) (c .below .result) (c .below .ensures), (λ J early e k. passing-start J early (a .row .now) 65536 (λ i l. c .before .pre .5 i (omega (arith, e)))))
 
 due-below-requires : tie.Need-due-below-requires Inv-loop μ-loop
 due-below-requires c κs = search needs
@@ -41,31 +54,37 @@ due-below-requires c κs = search needs
 returns : tie.Need-returns Inv-loop μ-loop
 returns c =
     let p = c .before .before .before .before in
-    let a = p .before .args in
+    let a = p .before .before .args in
     let due = c .before .before .due-below in
-    (p .loop .inv .0, (λ J early e k. passing-moves J early (a .row .now) (p .loop .row) (p .loop .all) (p .loop .limit) (p .loop .inv .2 J early e k) (due .result) (subst (λ (n : ℕ). DueBelow (p .loop .limit) n (p .loop .row) (due .result)) (sym e) (due .ensures)) (c .if1 .taken)))
+    (p .loop .inv .0, (λ J early e k. passing-moves J early (a .row .now) (p .loop .row) (p .loop .all) (p .loop .limit) (p .loop .inv .3 J early e k) (due .result) (below (c .before .before) (J .size) e) (c .if1 .taken)))
 
 lower-at-requires : tie.Need-lower-at-requires Inv-loop μ-loop
 lower-at-requires c κs =
     let p = c .before .before .before .before .before in
+    let s = p .before .before in
     let due = c .before .before .before .due-below in
-    (p .before .pre .3, p .loop .inv .0, (λ j t. (p .before .pre .4 j (below-job (p .loop .limit) (p .before .args .size) (p .loop .row) (due .result) (due .ensures) j t), due .ensures .top j t)), omega (arith, due .ensures .some (c .before .if1 .left), p .loop .inv .1))
+    (s .pre .3, p .loop .inv .0, (λ j t. (s .pre .4 j (below-job (p .loop .limit) (s .args .size) (p .loop .row) (due .result) (below (c .before .before .before) (s .args .size) refl) j t), due .ensures .top j t)), omega (arith, due .ensures .some (c .before .if1 .left), p .loop .inv .1))
 
 enum-known-moved : tie.Need-enum-known-moved Inv-loop μ-loop
 enum-known-moved c = search needs
 
 follow-requires : tie.Need-follow-requires Inv-loop μ-loop
-follow-requires c κs = (c .before .before .before .before .before .before .before .before .before .before .before .before .pre .0, c .before .before .before .before .before .lower-at .ensures .0, c .before .before .before .before .before .before .before .before .before .before .before .before .pre .2)
+follow-requires c κs =
+    let s = c .before .before .before .before .before .before .before .before .before .before .before .before .before in
+    (s .pre .0, c .before .before .before .before .before .lower-at .ensures .0, s .pre .2)
 
 returns-2 : tie.Need-returns-2 Inv-loop μ-loop
 returns-2 c =
     let p = c .before .before .before .before .before .before .before .before .before .before .before .before .before in
-    let a = p .before .args in
+    let a = p .before .before .args in
     let o = c .before .before .before .before in (
       c .before .follow .ensures .0,
-      (λ J early e k. none-join J early (a .row .now) (p .loop .row) (p .loop .row) (p .loop .inv .2 J early e k .sunk)
+      (λ J early e k. none-join J early (a .row .now) (p .loop .row) (p .loop .row) (p .loop .inv .3 J early e k .sunk)
           (none-join J early (p .loop .row) _ (p .loop .row) (moves o J early e k .0) (c .before .follow .ensures .1 J early e (k .follow) (k .earliest .raised) .none (not-true _ (c .if3 .taken))))),
     )
+
+below-requires-2 : tie.Need-below-requires-2 Inv-loop μ-loop
+below-requires-2 c κs = search needs
 
 enum-told : tie.Need-enum-told Inv-loop μ-loop
 enum-told c = search needs
@@ -73,31 +92,33 @@ enum-told c = search needs
 returns-3 : tie.Need-returns-3 Inv-loop μ-loop
 returns-3 c =
     let p = c .before .before .before .before .before .before .before .before in
-    let a = p .before .args in
+    let a = p .before .before .args in
     let o = c .before .before in
     let low = o .lower-at .last .1 .1 .1 .1 .1 .1 .0 in
     let due = c .before .before .before .before .before .before .due-below in (
       o .lower-at .ensures .0,
-      (λ J early e k. none-join J early (a .row .now) (p .loop .row) (p .loop .row) (p .loop .inv .2 J early e k .sunk)
+      (λ J early e k. none-join J early (a .row .now) (p .loop .row) (p .loop .row) (p .loop .inv .3 J early e k .sunk)
           (subst (λ (r : Moved). Moves J early (p .loop .row) low (AtD J early (row-in (p .loop .row)) (due .result .d)) r) (c .enum-told .given .1)
-          (o .lower-at .ensures .1 J early k (due-by (p .loop .limit) (J .size) (p .loop .row) (due .result) (subst (λ (n : ℕ). DueBelow (p .loop .limit) n (p .loop .row) (due .result)) (sym e) (due .ensures)) (c .before .before .before .before .if1 .left))))),
+          (o .lower-at .ensures .1 J early k (due-by (p .loop .limit) (J .size) (p .loop .row) (due .result) (below (c .before .before .before .before .before .before) (J .size) e) (c .before .before .before .before .if1 .left))))),
     )
 
 loop-less : tie.Need-loop-less Inv-loop μ-loop
-loop-less c = c .before .before .before .before .before .before .before .before .before .before .before .due-below .ensures .some (c .before .before .before .before .before .before .before .before .before .if1 .left)
+loop-less c = c .before .before .before .before .before .before .before .before .before .before .before .before .due-below .ensures .some (c .before .before .before .before .before .before .before .before .before .before .if1 .left)
 
 loop-again : tie.Need-loop-again Inv-loop μ-loop
 loop-again c =
-    let p = c .before .before .before .before .before .before .before .before .before .before .before .before .before in
-    let a = p .before .args in
-    let o = c .before .before .before .before in
-    let due = c .before .before .before .before .before .before .before .before .before .before .before .due-below in (
-      c .before .follow .ensures .0,
-      omega (arith, due .ensures .some (c .before .before .before .before .before .before .before .before .before .if1 .left), p .loop .inv .1),
+    let p = c .before .before .before .before .before .before .before .before .before .before .before .before .before .before in
+    let a = p .before .before .args in
+    let o = c .before .before .before .before .before in
+    let due = c .before .before .before .before .before .before .before .before .before .before .before .before .due-below in
+    let follow = c .before .before .follow in (
+      follow .ensures .0,
+      omega (arith, due .ensures .some (c .before .before .before .before .before .before .before .before .before .before .if1 .left), p .loop .inv .1),
+      among-start (a .size) (due .result .d) _ (c .below2 .result) (c .below2 .ensures),
       (λ J early e k.
           let m = moves o J early e k in
-          passing-moved J early (a .row .now) (p .loop .row) (p .loop .all) (p .loop .limit) (p .loop .inv .2 J early e k) (due .result) (subst (λ (n : ℕ). DueBelow (p .loop .limit) n (p .loop .row) (due .result)) (sym e) (due .ensures)) _ _ _ (or-some (p .loop .all) (o .before .moved .given .0 .0) (c .before .before .before .if2 .taken))
-          (m .0) (m .2 (c .before .before .before .if2 .taken)) (c .before .follow .ensures .1 J early e (k .follow) (k .earliest .raised) .sunk (not-false _ (c .if3 .left)))),
+          passing-moved J early (a .row .now) (p .loop .row) (p .loop .all) (p .loop .limit) (p .loop .inv .3 J early e k) (due .result) (below (c .before .before .before .before .before .before .before .before .before .before .before .before) (J .size) e) _ _ _ (or-some (p .loop .all) (o .before .moved .given .0 .0) (c .before .before .before .before .if2 .taken))
+          (m .0) (m .2 (c .before .before .before .before .if2 .taken)) (follow .ensures .1 J early e (k .follow) (k .earliest .raised) .sunk (not-false _ (c .before .if3 .left)))),
     )
 
 loop-less-2 : tie.Need-loop-less-2 Inv-loop μ-loop
@@ -106,13 +127,16 @@ loop-less-2 c = c .before .before .before .before .before .before .before .befor
 loop-again-2 : tie.Need-loop-again-2 Inv-loop μ-loop
 loop-again-2 c =
     let p = c .before .before .before .before .before .before .before .before .before .before in
-    let a = p .before .args in
-    let due = c .before .before .before .before .before .before .before .before .due-below in (
+    let a = p .before .before .args in
+    let due = c .before .before .before .before .before .before .before .before .due-below in
+    let j = p .before .before .pre .6 in (
       c .before .before .before .before .lower-at .ensures .0,
       omega (arith, due .ensures .some (c .before .before .before .before .before .before .if1 .left), p .loop .inv .1),
+      subst (λ (x : List ℕ). Among (a .size) (due .result .d) x (due .result .jobs)) (sym (moves (c .before) (j .0) (j .1) (j .2) (j .3) .1 (c .if2 .left) .0))
+          (among-next (p .loop .limit) (a .size) (p .loop .row) (due .result) (below (c .before .before .before .before .before .before .before .before) (a .size) refl) (c .before .before .before .before .before .before .if1 .left)),
       (λ J early e k.
           let m = moves (c .before) J early e k .1 (c .if2 .left) in
-          passing-still J early (a .row .now) (p .loop .row) (p .loop .all) (p .loop .limit) (p .loop .inv .2 J early e k) (due .result) (subst (λ (n : ℕ). DueBelow (p .loop .limit) n (p .loop .row) (due .result)) (sym e) (due .ensures)) _ (m .0) (m .1)),
+          passing-still J early (a .row .now) (p .loop .row) (p .loop .all) (p .loop .limit) (p .loop .inv .3 J early e k) (due .result) (below (c .before .before .before .before .before .before .before .before) (J .size) e) _ (m .0) (m .1)),
     )
 
 pub pass-spec : {M : Type 1} → statement M
@@ -121,6 +145,7 @@ pass-spec =
     (tie.spec
     Inv-loop
     μ-loop
+    below-requires
     loop-holds
     due-below-requires
     returns
@@ -128,6 +153,7 @@ pass-spec =
     enum-known-moved
     follow-requires
     returns-2
+    below-requires-2
     enum-told
     returns-3
     loop-less

@@ -37,7 +37,7 @@ loop-holds c = (c .pre .1, c .pre .5, (λ J early e k. sunk-same J early (c .arg
 pass-requires : tie.Need-pass-requires Inv-loop μ-loop
 pass-requires c κs =
     let p = c .before in
-    (p .before .pre .0, p .loop .inv .0, p .before .pre .2, p .before .pre .3, p .before .pre .4, p .loop .inv .1)
+    (p .before .pre .0, p .loop .inv .0, p .before .pre .2, p .before .pre .3, p .before .pre .4, p .loop .inv .1, p .before .pre .6)
 
 enum-known-moved : tie.Need-enum-known-moved Inv-loop μ-loop
 enum-known-moved c = search needs
