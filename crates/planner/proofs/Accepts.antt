@@ -1,20 +1,20 @@
 -- A request that passes its checks, and leaves a list that has a plan, has an outcome, and is accepted.
 -- Assumes nothing.
-use mathlib.Core.Bool.{Bool, true, false, cond, _||_}
+use mathlib.Core.Bool.{cond}
 use mathlib.Core.List.{List, [], _∷_}
 use mathlib.Core.Logic.{_⊎_, inl, inr, ⊎-elim}
-use mathlib.Core.Path.{_≡_, refl, sym, ap, subst, _∙_}
+use mathlib.Core.Path.{_≡_, refl, ap, _∙_}
 use Prim.Native.Nat.{ℕ, zero, suc, _+_, _≤_, _<_}
 use native.Mathlib.Nat.{not-suc-le-zero, le-of-suc-le-suc}
 use native.Mathlib.Omega.{arith}
 use borrow.Author.Tests.{lt-ltb, le-ltb}
 use lib.Bits.{bitOr}
-use lib.Dec.{T, eqb, eqb→eq, ltb}
+use lib.Dec.{T, ltb}
 use lib.ListN.{length, getD, set, List·getD-eq-default}
 use Rattle.schedule.specs.Jobs.{Jobs}
 use Rattle.schedule.specs.Times.{Latest}
 use Rattle.schedule.specs.Listed.{Listed, Chain, written, with-job, with-order}
-use Rattle.schedule.proofs.Tests.{test, le-or-lt, cond-case, or-left, or-right, or-split, eq→eqb}
+use Rattle.schedule.proofs.Tests.{test, le-or-lt}
 use Rattle.schedule.proofs.Exist.{plan-has-latest}
 use Rattle.schedule.proofs.Early.{earliest-one}
 use Rattle.schedule.proofs.Renumber.{latest-along}
@@ -26,12 +26,12 @@ use Rattle.planner.specs.Sets.{has}
 use Rattle.planner.specs.Told.{jobs-of, latest-of, row-in, Told}
 use Rattle.planner.specs.Unless.{passed}
 use Rattle.planner.specs.Outcome.{Planned, acceptance, Applies}
-use Rattle.planner.specs.Inner.Chains.{Links, Joins}
+use Rattle.planner.specs.Inner.Chains.{Links, joined-of}
 use Rattle.planner.proofs.Bits.{only, with-has}
 use Rattle.schedule.proofs.Same.{reads-one, plan-one}
 use Rattle.planner.proofs.Once.{applies-by}
 use Rattle.planner.proofs.Step.{Grows, size-is, job-grows, order-grows, followed-told, told-judged, Tight, with-latest, tight-judged}
-use Rattle.planner.proofs.Join.{or-joins, none-joins, links-by}
+use Rattle.planner.proofs.Join.{joined-links}
 
 -- ---- a list by its entries
 from : ℕ → (ℕ → ℕ) → List ℕ
@@ -79,28 +79,14 @@ links-exist : (old : List ℕ) (a b : ℕ) → length old ≡ 64 → a < 64 → 
 links-exist old a b l la lb = (
   from 64 joined,
   from-length 64 joined,
-  links-by old (from 64 joined) a b more l (from-length 64 joined) lb (λ x. with-has (getD old a 0) a x la)
-      (λ y ly. subst (λ n. Joins (getD old y 0) y b more n) (sym (from-at 64 joined y ly)) (joins y)),
+  joined-links old (from 64 joined) a b more l lb (λ x. with-has (getD old a 0) a x la) (record { long = from-length 64 joined; each = from-at 64 joined }),
 )
   where
     more : ℕ
     more = bitOr (getD old a 0) (only a)
 
-    meets : ℕ → Bool
-    meets y = eqb b y || has (getD old y 0) b
-
     joined : ℕ → ℕ
-    joined y = cond (meets y) (bitOr (getD old y 0) more) (getD old y 0)
-
-    no : (q : Bool) → (T q → ⊥) → q ≡ false
-    no true f = absurd (f tt)
-    no false f = refl
-
-    joins : (y : ℕ) → Joins (getD old y 0) y b more (joined y)
-    joins y = cond-case (λ n. Joins (getD old y 0) y b more n) (meets y) (bitOr (getD old y 0) more) (getD old y 0)
-        (λ t. or-joins (getD old y 0) y b more (⊎-elim (λ u. inl (eqb→eq b y u)) (λ u. inr u) (or-split (eqb b y) (has (getD old y 0) b) t)))
-        (λ f. none-joins (getD old y 0) y b more (λ e. f (or-left (eqb b y) (has (getD old y 0) b) (eq→eqb b y (sym e))))
-        (no (has (getD old y 0) b) (λ t. f (or-right (eqb b y) (has (getD old y 0) b) t))))
+    joined y = joined-of (getD old y 0) y b more
 
 -- ---- the outcome
 pub record Accepts (k : Book) (q : Request) : Type 0 where

@@ -1,33 +1,46 @@
 -- Rows of sets, joined by an order.
 -- Assumes nothing.
-use mathlib.Core.Bool.{false, _||_}
+use mathlib.Core.Bool.{_||_}
 use mathlib.Core.List.{List}
 use mathlib.Core.Logic.{_↔_, _⊎_, inl, inr, ⊎-elim}
-use mathlib.Core.Path.{_≡_, sym, ap, _∙_}
+use mathlib.Core.Path.{_≡_, refl, ap, _∙_}
 use Prim.Native.Nat.{ℕ, _≤_, _<_}
 use native.Mathlib.Omega.{arith}
 use lib.Bits.{bitOr}
 use lib.Dec.{T, eqb, eqb→eq}
 use lib.ListN.{length, getD, List·getD-eq-default}
-use Rattle.schedule.proofs.Tests.{le-or-lt, or-left, or-right, or-split, eq→eqb}
+use Rattle.schedule.proofs.Tests.{le-or-lt, cond-case, or-left, or-right, or-split, eq→eqb}
+use Rattle.schedule.specs.Listed.{Listed, with-order}
+use Rattle.planner.specs.declared.book.Book.{Book}
 use Rattle.planner.specs.Sets.{has}
-use Rattle.planner.specs.Inner.Chains.{Links, Joins}
+use Rattle.planner.specs.Told.{held, Told}
+use Rattle.planner.specs.Inner.Chains.{Links, joined-of, Joined}
 use Rattle.planner.proofs.Bits.{or-has}
-use Rattle.planner.proofs.Step.{none-has, false-T}
+use Rattle.planner.proofs.Step.{Grows, order-grows, none-has, false-T}
 
-pub or-joins : (row y b more : ℕ) → (b ≡ y) ⊎ T (has row b) → Joins row y b more (bitOr row more)
-or-joins row y b more h x = (
-  (λ t. ⊎-elim (λ u. inl u) (λ u. inr (u, h)) (or-split (has row x) (has more x) (rw (or-has row more x) at t))),
-  (λ t. rw (or-has row more x) (⊎-elim (λ u. or-left (has row x) (has more x) u) (λ u. or-right (has row x) (has more x) (u .0)) t)),
-)
+-- what a joined row has
+in-joined : (row y b more x : ℕ) → T (has (joined-of row y b more) x) ↔ (T (has row x) ⊎ (T (has more x) × ((b ≡ y) ⊎ T (has row b))))
+in-joined row y b more x =
+    cond-case (λ n. T (has n x) ↔ (T (has row x) ⊎ (T (has more x) × ((b ≡ y) ⊎ T (has row b))))) (has row b || eqb b y) (bitOr row more) row
+    (λ q. (
+      (λ t. ⊎-elim (λ u. inl u) (λ u. inr (u, ⊎-elim (λ v. inr v) (λ v. inl (eqb→eq b y v)) (or-split (has row b) (eqb b y) q))) (or-split (has row x) (has more x) (rw (or-has row more x) at t))),
+      (λ t. rw (or-has row more x) (⊎-elim (λ u. or-left (has row x) (has more x) u) (λ u. or-right (has row x) (has more x) (u .0)) t)),
+    ))
+    (λ f. (
+      (λ t. inl t),
+      (λ t. ⊎-elim (λ u. u) (λ u. absurd (f (⊎-elim (λ e. or-right (has row b) (eqb b y) (eq→eqb b y e)) (λ v. or-left (has row b) (eqb b y) v) (u .1)))) t),
+    ))
 
-pub none-joins : (row y b more : ℕ) → (y ≡ b → ⊥) → has row b ≡ false → Joins row y b more row
-none-joins row y b more f e x = ((λ t. inl t), (λ t. ⊎-elim (λ u. u) (λ u. absurd (⊎-elim (λ v. f (sym v)) (λ v. false-T _ e v) (u .1))) t))
+-- a row without b, that is not row b, stays
+pub joined-same : (row y b more : ℕ) → (T (has row b) → ⊥) → (b ≡ y → ⊥) → joined-of row y b more ≡ row
+joined-same row y b more f g =
+    cond-case (λ n. n ≡ row) (has row b || eqb b y) (bitOr row more) row
+    (λ q. absurd (⊎-elim f (λ u. g (eqb→eq b y u)) (or-split (has row b) (eqb b y) q)))
+    (λ h. refl)
 
 -- all rows joined, where `more` is a and all that precedes a
-pub links-by : (rows next : List ℕ) (a b more : ℕ) → length rows ≡ 64 → length next ≡ 64 → b < 64 → ((x : ℕ) → has more x ≡ (has (getD rows a 0) x || eqb x a)) →
-    ((y : ℕ) → y < 64 → Joins (getD rows y 0) y b more (getD next y 0)) → Links a b rows next
-links-by rows next a b more lr ln hb m h x y = go (le-or-lt 64 y)
+pub joined-links : (rows next : List ℕ) (a b more : ℕ) → length rows ≡ 64 → b < 64 → ((x : ℕ) → has more x ≡ (has (getD rows a 0) x || eqb x a)) → Joined rows b more next → Links a b rows next
+joined-links rows next a b more lr hb m j x y = go (le-or-lt 64 y)
   where
     in-more : (x : ℕ) → T (has more x) ↔ ((x ≡ a) ⊎ T (has (getD rows a 0) x))
     in-more x = (
@@ -40,10 +53,16 @@ links-by rows next a b more lr ln hb m h x y = go (le-or-lt 64 y)
 
     go : (64 ≤ y) ⊎ (y < 64) → T (has (getD next y 0) x) ↔ (T (has (getD rows y 0) x) ⊎ (((x ≡ a) ⊎ T (has (getD rows a 0) x)) × ((b ≡ y) ⊎ T (has (getD rows y 0) b))))
     go (inl le) = (
-      (λ t. absurd (nothing next ln le x t)),
+      (λ t. absurd (nothing next (j .long) le x t)),
       (λ t. absurd (⊎-elim (λ u. nothing rows lr le x u) (λ u. ⊎-elim (λ e. omega arith) (λ v. nothing rows lr le b v) (u .1)) t)),
     )
-    go (inr lt) = (
-      (λ t. ⊎-elim (λ u. inl u) (λ u. inr (in-more x .0 (u .0), u .1)) (h y lt x .0 t)),
-      (λ t. h y lt x .1 (⊎-elim (λ u. inl u) (λ u. inr (in-more x .1 (u .0), u .1)) t)),
+    go (inr lt) = rw (j .each y lt) (
+      (λ t. ⊎-elim (λ u. inl u) (λ u. inr (in-more x .0 (u .0), u .1)) (in-joined (getD rows y 0) y b more x .0 t)),
+      (λ t. in-joined (getD rows y 0) y b more x .1 (⊎-elim (λ u. inl u) (λ u. inr (in-more x .1 (u .0), u .1)) t)),
     )
+
+-- a book whose rows are so joined
+pub joined-grows : (L : Listed) (k : Book) → Told k L → (a b : ℕ) → a < k .size → b < k .size → (more : ℕ) (next : List ℕ) → ((x : ℕ) → has more x ≡ (has (getD (k .before) a 0) x || eqb x a)) → Joined (k .before) b more next →
+    (a ≡ b → ⊥) → (T (has (getD (k .before) a 0) b) → ⊥) → Grows (with-order L a b) (held (k .size) (k .start) (k .latest) next)
+joined-grows L k t a b la lb more next m j =
+    order-grows L k t a b la lb next (j .long) (joined-links (k .before) next a b more (t .shaped .befores) (omega (arith, t .shaped .few)) m j)

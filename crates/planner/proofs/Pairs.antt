@@ -13,7 +13,7 @@ use lib.ListN.{length, getD, replicate}
 use Rattle.schedule.specs.Listed.{ordered, Chain, link, join}
 use Rattle.schedule.proofs.Tests.{lt-by, or-left, or-right, or-split, eq→eqb}
 use Rattle.schedule.proofs.Search.{split-last}
-use Rattle.schedule.proofs.Chains.{chain-grows, ordered-append}
+use Rattle.schedule.proofs.Chains.{chain-grows, chain-held, ordered-append}
 use Rattle.planner.specs.Sets.{has}
 use Rattle.planner.specs.Judged.{first-of, second-of, pairs-of, Looping}
 use Rattle.planner.specs.Inner.List.{Held, Spells, Follows}
@@ -110,6 +110,10 @@ pairs-held size pairs h (suc n) l a b t =
     ⊎-elim (λ u. pairs-held size pairs h n (omega arith) a b u)
     (λ u. held-both size pairs h n a b (omega arith) (u .0) (u .1))
     (ordered-append (pairs-of pairs n) (first-of pairs n) (second-of pairs n) a b .0 t)
+
+-- and so are the jobs that the rows have
+pub spells-held : (size : ℕ) (pairs rows : List ℕ) (n : ℕ) → Held size pairs → n ≤ length pairs / 2 → Spells pairs n rows → (a b : ℕ) → T (has (getD rows b 0) a) → (a < size) × (b < size)
+spells-held size pairs rows n h l s a b t = chain-held (pairs-of pairs n) size (pairs-held size pairs h n l) (s .chains a b .0 t)
 
 pub pairs-loopless : (pairs : List ℕ) (n : ℕ) → ((p : ℕ) → p < n → Looping pairs p → ⊥) → (x : ℕ) → Chain (pairs-of pairs n) x x → ⊥
 unfolding pairs-of

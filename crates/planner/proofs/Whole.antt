@@ -1,7 +1,7 @@
 -- A whole list: what its checks leave, one after the other.
 -- Assumes nothing.
 use mathlib.Core.List.{List}
-use mathlib.Core.Logic.{inl, inr, ⊎-elim}
+use mathlib.Core.Logic.{inl, inr}
 use mathlib.Core.Path.{_≡_, refl, sym}
 use Prim.Native.Nat.{ℕ, _/_, _≤_, _<_}
 use native.Mathlib.Omega.{arith}
@@ -12,7 +12,7 @@ use Rattle.schedule.specs.Listed.{Listed, Looped, Formed, Reads, written}
 use Rattle.schedule.specs.Book.{Holds}
 use Rattle.schedule.proofs.Tests.{le-by}
 use Rattle.schedule.proofs.Early.{exists-earliest}
-use Rattle.schedule.proofs.Chains.{chain-held, reads-closed, reads-loopless}
+use Rattle.schedule.proofs.Chains.{reads-closed, reads-loopless}
 use Rattle.schedule.proofs.Renumber.{latest-along}
 use Rattle.planner.specs.declared.refusal.Answer.{Answer}
 use Rattle.planner.specs.Told.{jobs-in, row-in}
@@ -22,7 +22,7 @@ use Rattle.planner.specs.Judged.{list-of, Unsound, number-for, Looping, 
 use Rattle.planner.specs.Inner.List.{First, Numbers, Held, Spells, Settleable, Settles, none, fits}
 use Rattle.schedule.proofs.Same.{reads-one, plan-one}
 use Rattle.schedule.proofs.Onward.{holds-planned}
-use Rattle.planner.proofs.Pairs.{pairs-held, pairs-loopless}
+use Rattle.planner.proofs.Pairs.{pairs-held, pairs-loopless, spells-held}
 
 -- ---- a check of every place that found none
 pub none-at : (n : ℕ) (fault : ℕ → Type 0) (p : ℕ) → First n fault p → n ≤ p → (i : ℕ) → i < n → fault i → ⊥
@@ -69,7 +69,7 @@ module _ (starts deadlines pairs before : List ℕ) (s : Sound starts deadlines 
     late = λ i h. le-by _ 4096 (λ g. s .jobs i h (inl (inr g)));
     closed = reads-closed L J reads;
     loopless = reads-loopless L J reads free;
-    held = λ a b t. chain-held (L .orders) (length starts) (formed starts deadlines pairs s .held) (spells .chains a b .0 t);
+    held = spells-held (length starts) pairs before (length pairs / 2) (s .held) (omega arith) spells;
   }
 
   holds-row : (times row : ℕ → ℕ) → ((i : ℕ) → i < length starts → row i ≡ times i) → ((early : ℕ → ℕ) → Earliest J early → Latest 2 J early (row-in deadlines) times) → Holds 2 L J row
@@ -94,7 +94,3 @@ module _ (starts deadlines pairs before : List ℕ) (s : Sound starts deadlines 
   settles-judged row after r (fits times x e h) =
       let holds = holds-row (row-in times) (row-in after) (h .front) x in
       passed (λ no. no (holds-planned 2 (omega arith) (omega arith) L J (row-in after) holds)) (record { answer = e; same-length = h .same-length; jobs = J; holds = holds; rest = h .rest })
-
--- jobs held are jobs below 64
-pub held-few : (size : ℕ) (pairs : List ℕ) → size ≤ 64 → Held size pairs → Held 64 pairs
-held-few size pairs l h = record { below = λ p k u. h .below p k (⊎-elim (λ x. inl (omega arith)) (λ x. inr (omega arith)) u) }

@@ -144,7 +144,8 @@ fn add_order<'a>(
         return Answer::Accepted(0);
     }
     let mut rows = *before;
-    chains::link(&mut rows, first, second);
+    let more = sets::with(rows[a], first);
+    chains::link(size, &mut rows, second, more);
     let mut row = *latest;
     if tighten::tighten(size, start, &rows, &mut row) {
         *latest = row;

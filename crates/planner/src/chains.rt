@@ -2,19 +2,19 @@
 use crate::sets;
 use schedule::JobIndex;
 ghost use mathlib.Core.Path.{_≡_};
-ghost use Prim.Native.Nat.{_<_};
-ghost use lib.ListN.{length};
-ghost use Rattle.planner.specs.Inner.Chains.{Links, Joins};
+ghost use Prim.Native.Nat.{ℕ, _<_, _≤_};
+ghost use lib.Dec.{T};
+ghost use lib.ListN.{length, getD};
+ghost use Rattle.planner.specs.Sets.{has};
+ghost use Rattle.planner.specs.Inner.Chains.{joined-of, Joined};
 
-// Job a before job b: row b, and each row that has b, takes in a and all of row a.
-pub fn link(rows: &mut [u64; 64], a: JobIndex, b: JobIndex)
-    requires { ⌜ (length (now rows) ≡ 64) × (a .0 < 64) × (b .0 < 64) ⌝ }
-    ensures { λ _. ⌜ (length (now (rows .exit)) ≡ 64) × Links (a .0) (b .0) (now (rows .entry)) (now (rows .exit)) ⌝ }
+// Row b, and each row that has b, takes in more; no row from size on has b.
+pub fn link(size: usize, rows: &mut [u64; 64], b: JobIndex, more: u64)
+    requires { ⌜ (length (now rows) ≡ 64) × (size ≤ 64) × (b .0 < size) × ((y : ℕ) → size ≤ y → T (has (getD (now rows) y 0) (b .0)) → ⊥) ⌝ }
+    ensures { λ _. ⌜ Joined (now (rows .entry)) (b .0) more (now (rows .exit)) ⌝ }
 {
-    let first = a.0;
-    let more = sets::with(rows[first], a);
     let mut y: usize = 0;
-    while y < 64 {
+    while y < size {
         rows[y] = joined(rows[y], JobIndex(y), b, more);
         y += 1;
     }
@@ -22,13 +22,10 @@ pub fn link(rows: &mut [u64; 64], a: JobIndex, b: JobIndex)
 
 // One such row.
 fn joined(row: u64, y: JobIndex, b: JobIndex, more: u64) -> u64
-    requires { ⌜ b .0 < 64 ⌝ }
-    ensures { λ r. ⌜ Joins row (y .0) (b .0) more r ⌝ }
+    requires { ⌜ (y .0 < 64) × (b .0 < 64) ⌝ }
+    ensures { λ r. ⌜ r ≡ joined-of row (y .0) (b .0) more ⌝ }
 {
-    if y.0 == b.0 {
-        return row | more;
-    }
-    if sets::has(row, b) {
+    if sets::has(sets::with(row, y), b) {
         return row | more;
     }
     row

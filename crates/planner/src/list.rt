@@ -6,8 +6,8 @@ use crate::tighten;
 use schedule::JobIndex;
 ghost use mathlib.Core.Bool.{_||_};
 ghost use mathlib.Core.Path.{_≡_};
-ghost use Prim.Native.Nat.{_/_, _≤_, _<_};
-ghost use lib.Dec.{eqb};
+ghost use Prim.Native.Nat.{ℕ, _/_, _≤_, _<_};
+ghost use lib.Dec.{T, eqb};
 ghost use lib.ListN.{length, getD};
 ghost use Rattle.planner.specs.Sets.{has};
 ghost use Rattle.planner.specs.Judged.{Judges, Unsound, Unheld};
@@ -39,7 +39,7 @@ pub fn judge(starts: &[u16], deadlines: &[u16], pairs: &[u16], latest: &mut [u16
         return Answer::Refused(5, stray);
     }
     let mut rows = [0u64; 64];
-    let closing = looping_pair(pairs, &mut rows);
+    let closing = looping_pair(size, pairs, &mut rows);
     if closing < pairs.len() / 2 {
         return Answer::Refused(6, closing);
     }
@@ -104,8 +104,8 @@ fn named(pairs: &[u16], at: usize) -> JobIndex
 }
 
 // The first pair that closes a loop with those before it, or the number of pairs; the rows take in those before it.
-fn looping_pair(pairs: &[u16], rows: &mut [u64; 64]) -> usize
-    requires { ⌜ Held 64 (now pairs) × Spells (now pairs) 0 (now rows) ⌝ }
+fn looping_pair(size: usize, pairs: &[u16], rows: &mut [u64; 64]) -> usize
+    requires { ⌜ (size ≤ 64) × Held size (now pairs) × Spells (now pairs) 0 (now rows) ⌝ }
     ensures { λ r. ⌜ Loops (now (pairs .entry)) (now (rows .exit)) r ⌝ }
 {
     let count = pairs.len() / 2;
@@ -116,7 +116,7 @@ fn looping_pair(pairs: &[u16], rows: &mut [u64; 64]) -> usize
         if closes(rows, first, second) {
             return p;
         }
-        follow(rows, first, second);
+        follow(size, rows, first, second);
         p += 1;
     }
     p
@@ -135,13 +135,15 @@ fn closes(rows: &[u64; 64], a: JobIndex, b: JobIndex) -> bool
 }
 
 // Job a before job b, unless that already follows.
-fn follow(rows: &mut [u64; 64], a: JobIndex, b: JobIndex)
-    requires { ⌜ (length (now rows) ≡ 64) × (a .0 < 64) × (b .0 < 64) ⌝ }
+fn follow(size: usize, rows: &mut [u64; 64], a: JobIndex, b: JobIndex)
+    requires { ⌜ (length (now rows) ≡ 64) × (size ≤ 64) × (a .0 < size) × (b .0 < size) × ((y : ℕ) → size ≤ y → T (has (getD (now rows) y 0) (b .0)) → ⊥) ⌝ }
     ensures { λ _. ⌜ Follows (a .0) (b .0) (now (rows .entry)) (now (rows .exit)) ⌝ }
 {
+    let first = a.0;
     let second = b.0;
     if !sets::has(rows[second], a) {
-        chains::link(rows, a, b);
+        let more = sets::with(rows[first], a);
+        chains::link(size, rows, b, more);
     }
 }
 

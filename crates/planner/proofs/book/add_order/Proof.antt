@@ -4,7 +4,8 @@ use mathlib.Core.Path.{refl, sym, _∙_}
 use mathlib.Core.Logic.{inl, inr, ⊎-elim}
 use native.Mathlib.Omega.{arith}
 use Rattle.planner.specs.Unless.{refused, passed}
-use Rattle.planner.proofs.Step.{false-T, true-T, size-is, order-back, order-free, followed-told, order-grows, grows-ready, told-judged, fits-judged, none-judged}
+use Rattle.planner.proofs.Step.{false-T, true-T, size-is, order-back, order-free, followed-told, grows-ready, told-judged, fits-judged, none-judged}
+use Rattle.planner.proofs.Join.{joined-grows}
 use borrow.Author.Needs.{needs}
 use Rattle.planner.proofs.book.add_order.Statement.{statement}
 use Rattle.planner.proofs.book.add_order.Tie as tie
@@ -46,38 +47,49 @@ returns-5 c = λ L t.
     (passed (order-free L _ t _ _ (omega arith) (omega arith) (free .before .before .before .if3 .left) (sym (free .before .has .ensures) ∙ free .if4 .left))
     (told-judged _ _ _ _ refl (followed-told L _ t _ _ (omega arith) (omega arith) (true-T _ (sym (c .before .has2 .ensures) ∙ c .if5 .taken)))))
 
+mul-with : tie.Need-mul-with
+mul-with c = search needs
+
+array-read-with : tie.Need-array-read-with
+array-read-with c = search needs
+
+with-requires : tie.Need-with-requires
+with-requires c κs = search needs
+
 link-requires : tie.Need-link-requires
-link-requires c κs = search needs
+link-requires c κs =
+    let start = c .before .before .before .before .before .before .before .before .before .before .before .before in
+    (start .pre .1 .shaped .befores, start .pre .1 .shaped .few, omega arith, (λ y l t. omega (arith, start .pre .1 .shaped .before-rest _ y t .1)))
 
 tighten-requires : tie.Need-tighten-requires
 tighten-requires c κs =
-    let linked = c .before .before .before .link .ensures in
-    let free = c .before .before .before .before .before .before .before .before .before in
+    let linked = c .before .before .before in
+    let free = linked .before .before .before .before .before .before .before in
     let apart = free .before .before .before in
     let start = apart .before .before .before in
     grows-ready _ _
-    (order-grows (start .pre .0) _ (start .pre .1) _ _ (omega arith) (omega arith) _ (linked .0) (linked .1) (apart .if3 .left)
+    (joined-grows (start .pre .0) _ (start .pre .1) _ _ (omega arith) (omega arith) _ _ (linked .before .before .with .ensures) (linked .link .ensures) (apart .if3 .left)
     (false-T _ (sym (free .before .has .ensures) ∙ free .if4 .left)))
 
 returns-6 : tie.Need-returns-6
 returns-6 c = λ L t.
-    let linked = c .before .before .before .before .before .link .ensures in
-    let free = c .before .before .before .before .before .before .before .before .before .before .before in
+    let linked = c .before .before .before .before .before in
+    let free = linked .before .before .before .before .before .before .before in
     let apart = free .before .before .before .if3 .left in
     let no-loop = sym (free .before .has .ensures) ∙ free .if4 .left in
     passed (λ f. ⊎-elim (λ x. omega (arith, size-is L _ t)) (λ x. omega (arith, size-is L _ t)) f)
     (passed (order-free L _ t _ _ (omega arith) (omega arith) apart no-loop)
-    (fits-judged _ _ _ _ _ _ (order-grows L _ t _ _ (omega arith) (omega arith) _ (linked .0) (linked .1) apart (false-T _ no-loop)) (c .before .tighten .ensures) _ refl (c .if6 .taken)))
+    (fits-judged _ _ _ _ _ _ (joined-grows L _ t _ _ (omega arith) (omega arith) _ _ (linked .before .before .with .ensures) (linked .link .ensures) apart (false-T _ no-loop)) (c .before .tighten .ensures) _ refl (c .if6 .taken)))
 
 returns-7 : tie.Need-returns-7
 returns-7 c = λ L t.
-    let linked = c .before .before .before .before .before .link .ensures in
-    let free = c .before .before .before .before .before .before .before .before .before .before .before in
+    let linked = c .before .before .before .before .before in
+    let free = linked .before .before .before .before .before .before .before in
     let apart = free .before .before .before .if3 .left in
     let no-loop = sym (free .before .has .ensures) ∙ free .if4 .left in
     passed (λ f. ⊎-elim (λ x. omega (arith, size-is L _ t)) (λ x. omega (arith, size-is L _ t)) f)
     (passed (order-free L _ t _ _ (omega arith) (omega arith) apart no-loop)
-    (none-judged _ _ _ _ _ _ (order-grows L _ t _ _ (omega arith) (omega arith) _ (linked .0) (linked .1) apart (false-T _ no-loop)) (c .before .tighten .ensures) _ refl (c .if6 .left)))
+    (none-judged _ _ _ _ _ _ (joined-grows L _ t _ _ (omega arith) (omega arith) _ _ (linked .before .before .with .ensures) (linked .link .ensures) apart (false-T _ no-loop)) (c .before .tighten .ensures) _ refl (c .if6 .left)))
 
 pub add-order-spec : {M : Type 1} → statement M
 add-order-spec =
@@ -94,6 +106,9 @@ add-order-spec =
     element-copy-out-has-2
     has-requires-2
     returns-5
+    mul-with
+    array-read-with
+    with-requires
     link-requires
     tighten-requires
     returns-6

@@ -1,40 +1,28 @@
 -- `planner::chains::link` meets its contract. The invariant: the rows below y are joined, and the others are as they were.
 -- Assumes nothing.
-use mathlib.Core.Path.{_≡_, refl, _∙_}
+use mathlib.Core.Logic.{⊎-elim}
+use mathlib.Core.Path.{_≡_, refl, sym, _∙_}
 use Prim.Native.Nat.{ℕ, _-_, _≤_, _<_}
 use native.Mathlib.Omega.{arith}
 use borrow.Author.Count.{below-none, below-more}
 use borrow.Author.Needs.{needs}
-use denote.Ref.{now}
 use lib.ListN.{length, length-set, getD}
 use lib.Seq.{getD-set-same, getD-set-other}
-use Rattle.planner.specs.Inner.Chains.{Joins}
-use Rattle.planner.proofs.Join.{links-by}
+use Rattle.schedule.proofs.Tests.{le-or-lt}
+use Rattle.planner.specs.Inner.Chains.{joined-of}
+use Rattle.planner.proofs.Join.{joined-same}
 use Rattle.planner.proofs.chains.link.Statement.{statement}
 use Rattle.planner.proofs.chains.link.Tie as tie
-use Rattle.planner.proofs.chains.link.Reads as reads
-use Rattle.planner.proofs.chains.link.Lts as lts
-use Rattle.planner.proofs.chains.joined.Reads as joined-reads
-use Rattle.planner.proofs.sets.with.Reads as with-reads
 
 abbrev Inv-loop : tie.InvT-loop
-Inv-loop rows₀ b first more y₀ rows y =
-    (y ≤ 64) × (length rows ≡ 64) × ((k : ℕ) → k < y → Joins (getD rows₀ k 0) k (b .0) more (getD rows k 0)) × ((k : ℕ) → y ≤ k → getD rows k 0 ≡ getD rows₀ k 0)
+Inv-loop size rows₀ b more y₀ rows y =
+    (y ≤ size) × (length rows ≡ 64) × ((k : ℕ) → k < y → getD rows k 0 ≡ joined-of (getD rows₀ k 0) k (b .0) more) × ((k : ℕ) → y ≤ k → getD rows k 0 ≡ getD rows₀ k 0)
 
 abbrev μ-loop : tie.MeasureT-loop
-μ-loop rows₀ b first more y₀ rows y = 64 - y
-
-mul-with : tie.Need-mul-with Inv-loop μ-loop
-mul-with c = search needs
-
-element-copy-out-with : tie.Need-element-copy-out-with Inv-loop μ-loop
-element-copy-out-with c = search needs
-
-with-requires : tie.Need-with-requires Inv-loop μ-loop
-with-requires c κs = search needs
+μ-loop size rows₀ b more y₀ rows y = size - y
 
 loop-holds : tie.Need-loop-holds Inv-loop μ-loop
-loop-holds c = (search needs, c .before .before .pre .0, below-none _, (λ k h. refl))
+loop-holds c = (search needs, c .pre .0, below-none _, (λ k h. refl))
 
 mul-joined : tie.Need-mul-joined Inv-loop μ-loop
 mul-joined c = search needs
@@ -65,7 +53,7 @@ loop-again c =
       search needs,
       simp length-set (p .loop .inv .1),
       below-more _ _
-          (λ k h. rw (getD-set-other (p .loop .rows) n k v 0 (λ q. omega arith)) (p .loop .inv .2 k h))
+          (λ k h. getD-set-other (p .loop .rows) n k v 0 (λ q. omega arith) ∙ p .loop .inv .2 k h)
           (rw (getD-set-same (p .loop .rows) n v 0 (omega (arith, p .loop .inv .1)), ← p .loop .inv .3 n (omega arith)) (c .joined .ensures)),
       (λ k h. getD-set-other (p .loop .rows) n k v 0 (λ q. omega arith) ∙ p .loop .inv .3 k (omega arith)),
     )
@@ -73,12 +61,13 @@ loop-again c =
 returns : tie.Need-returns Inv-loop μ-loop
 returns c =
     let p = c .before in
-    let at-with = p .before in
-    let start = at-with .before .before in (
-      p .loop .inv .1,
-      links-by (now (start .args .rows)) (p .loop .rows) (start .args .a .0) (start .args .b .0) (at-with .with .result)
-          (start .pre .0) (p .loop .inv .1) (start .pre .2) (at-with .with .ensures) (λ y h. p .loop .inv .2 y (omega arith)),
-    )
+    let start = p .before in
+    record {
+      long = p .loop .inv .1;
+      each = λ y h. ⊎-elim
+          (λ (l : start .args .size ≤ y). p .loop .inv .3 y (omega arith) ∙ sym (joined-same _ y _ _ (start .pre .3 y l) (λ e. omega arith)))
+          (λ l. p .loop .inv .2 y (omega arith)) (le-or-lt (start .args .size) y);
+    }
 
 pub link-spec : {M : Type 1} → statement M
 link-spec =
@@ -86,9 +75,6 @@ link-spec =
     (tie.spec
     Inv-loop
     μ-loop
-    mul-with
-    element-copy-out-with
-    with-requires
     loop-holds
     mul-joined
     element-copy-out-joined

@@ -2,7 +2,9 @@
 -- Assumes nothing.
 use mathlib.Core.Logic.{inl, inr}
 use mathlib.Core.Path.{refl, sym, _∙_}
+use native.Mathlib.Omega.{arith}
 use borrow.Author.Tests.{not-false}
+use Rattle.planner.proofs.Join.{joined-links}
 use Rattle.planner.proofs.Step.{true-T}
 use borrow.Author.Needs.{needs}
 use Rattle.planner.proofs.list.follow.Statement.{statement}
@@ -17,15 +19,27 @@ element-copy-out-has c = search needs
 has-requires : tie.Need-has-requires
 has-requires c κs = search needs
 
+mul-with : tie.Need-mul-with
+mul-with c = search needs
+
+element-copy-out-with : tie.Need-element-copy-out-with
+element-copy-out-with c = search needs
+
+with-requires : tie.Need-with-requires
+with-requires c κs = search needs
+
 link-requires : tie.Need-link-requires
 link-requires c κs = search needs
 
 returns : tie.Need-returns
-returns c = inr (c .link .ensures)
+returns c =
+    let start = c .before .before .before .before .before .before .before in
+    inr (c .link .ensures .long, joined-links _ _ _ _ _ (start .pre .0) (omega arith) (c .before .before .with .ensures) (c .link .ensures))
 
 returns-2 : tie.Need-returns-2
 returns-2 c = inl (true-T _ (sym (c .before .has .ensures) ∙ not-false _ (c .if1 .left)), refl)
 
 pub follow-spec : {M : Type 1} → statement M
 follow-spec =
-    tie.close (tie.spec mul-has element-copy-out-has has-requires link-requires returns returns-2)
+    tie.close
+    (tie.spec mul-has element-copy-out-has has-requires mul-with element-copy-out-with with-requires link-requires returns returns-2)

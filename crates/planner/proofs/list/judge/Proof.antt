@@ -10,7 +10,7 @@ use Rattle.planner.specs.Unless.{refused, passed, first, clear}
 use Rattle.planner.specs.Judged.{Misshapen, turned-down}
 use Rattle.planner.specs.Inner.List.{Spells}
 use Rattle.planner.proofs.Pairs.{spells-none}
-use Rattle.planner.proofs.Whole.{none-at, number-is, Sound, sound-settleable, settles-judged, held-few}
+use Rattle.planner.proofs.Whole.{none-at, number-is, Sound, sound-settleable, settles-judged}
 use Rattle.planner.proofs.list.judge.Statement.{statement}
 use Rattle.planner.proofs.list.judge.Tie as tie
 
@@ -28,7 +28,7 @@ sound c = record {
   free = none-at _ _ _ (c .before .looping-pair .ensures .first) (c .if7 .left);
 }
 
-spells : (c : tie.Else7) → let p = c .before .before .before .before .before .before .before .before .before .before .before .before .before .before .before .args .pairs .now in Spells p (length p / 2) (c .before .looping-pair .last .1 .0)
+spells : (c : tie.Else7) → let p = c .before .before .before .before .before .before .before .before .before .before .before .before .before .before .before .args .pairs .now in Spells p (length p / 2) (c .before .looping-pair .last .1 .1 .0)
 spells c =
     let e : c .before .looping-pair .result ≡ length (c .before .before .before .before .before .before .before .before .before .before .before .before .before .before .before .args .pairs .now) / 2 = omega (arith, c .before .looping-pair .ensures .first .within, c .if7 .left) in
     rw e at (c .before .looping-pair .ensures .spells)
@@ -84,7 +84,7 @@ returns-6 c =
 
 looping-pair-requires : tie.Need-looping-pair-requires
 looping-pair-requires c κs =
-    (held-few _ _ (c .before .before .before .before .before .if4 .left) (record { below = none-at _ _ _ (c .before .before .unheld-pair .ensures) (c .before .if6 .left) }), spells-none _)
+    (c .before .before .before .before .before .if4 .left, record { below = none-at _ _ _ (c .before .before .unheld-pair .ensures) (c .before .if6 .left) }, spells-none _)
 
 returns-7 : tie.Need-returns-7
 returns-7 c =

@@ -9,18 +9,18 @@ use lib.ListN.{length}
 use Rattle.planner.specs.Judged.{Looping}
 use Rattle.planner.specs.Inner.List.{Spells}
 use Rattle.planner.proofs.Step.{true-T, false-T}
-use Rattle.planner.proofs.Pairs.{held-both, looping-is, spells-more}
+use Rattle.planner.proofs.Pairs.{held-both, looping-is, spells-more, spells-held}
 use Rattle.planner.proofs.list.looping_pair.Statement.{statement}
 use Rattle.planner.proofs.list.looping_pair.Tie as tie
 
 abbrev Inv-loop : tie.InvT-loop
-Inv-loop pairs rows₀ count p₀ rows p = (p ≤ length pairs / 2) × ((j : ℕ) → j < p → Looping pairs j → ⊥) × Spells pairs p rows
+Inv-loop size pairs rows₀ count p₀ rows p = (p ≤ length pairs / 2) × ((j : ℕ) → j < p → Looping pairs j → ⊥) × Spells pairs p rows
 
 abbrev μ-loop : tie.MeasureT-loop
-μ-loop pairs rows₀ count p₀ rows p = length pairs / 2 - p
+μ-loop size pairs rows₀ count p₀ rows p = length pairs / 2 - p
 
 loop-holds : tie.Need-loop-holds Inv-loop μ-loop
-loop-holds c = (search needs, below-none _, c .before .pre .1)
+loop-holds c = (search needs, below-none _, c .before .pre .2)
 
 mul-named : tie.Need-mul-named Inv-loop μ-loop
 mul-named c = search needs
@@ -40,7 +40,9 @@ named-requires-2 c κs = search needs
 closes-requires : tie.Need-closes-requires Inv-loop μ-loop
 closes-requires c κs =
     let p = c .before .before .before .before in
-    held-both 64 _ (p .before .before .pre .0) (p .loop .p) _ _ (search needs) (c .before .before .named .ensures) (c .before .named2 .ensures)
+    let start = p .before .before in
+    let h = held-both (start .args .size) _ (start .pre .1) (p .loop .p) _ _ (search needs) (c .before .before .named .ensures) (c .before .named2 .ensures) in
+    (omega (arith, h .0), omega (arith, h .1))
 
 returns : tie.Need-returns Inv-loop μ-loop
 returns c =
@@ -58,8 +60,9 @@ returns c =
 follow-requires : tie.Need-follow-requires Inv-loop μ-loop
 follow-requires c κs =
     let p = c .before .before .before .before .before .before .before in
-    let h = held-both 64 _ (p .before .before .pre .0) (p .loop .p) _ _ (search needs) (c .before .before .before .before .before .named .ensures) (c .before .before .before .before .named2 .ensures) in
-    (p .loop .inv .2 .long, h .0, h .1)
+    let start = p .before .before in
+    let h = held-both (start .args .size) _ (start .pre .1) (p .loop .p) _ _ (search needs) (c .before .before .before .before .before .named .ensures) (c .before .before .before .before .named2 .ensures) in
+    (p .loop .inv .2 .long, start .pre .0, h .0, h .1, (λ y l t. omega (arith, spells-held _ _ _ _ (start .pre .1) (p .loop .inv .0) (p .loop .inv .2) _ y t .1)))
 
 add-p : tie.Need-add-p Inv-loop μ-loop
 add-p c = search needs
