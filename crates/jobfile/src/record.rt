@@ -52,9 +52,10 @@ pub fn put_record(out: &mut [u8], at: usize, mark: u16, first: u16, second: u16)
     requires { ⌜ at + 6 ≤ length (now out) ⌝ }
     ensures { λ _. ⌜ now (out .exit) ≡ sets (now (out .entry)) at (record-of mark first second) ⌝ }
 {
+    // the last word first: a machine then stores its two bytes at once
+    put_word(out, at + 4, second);
     put_word(out, at, mark);
     put_word(out, at + 2, first);
-    put_word(out, at + 4, second);
 }
 
 fn put_word(out: &mut [u8], at: usize, value: u16)
