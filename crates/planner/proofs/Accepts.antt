@@ -1,11 +1,10 @@
 -- A request that passes its checks, and leaves a list that has a plan, has an outcome, and is accepted.
 -- Assumes nothing.
 use mathlib.Core.Bool.{cond}
-use mathlib.Core.List.{List, [], _∷_}
+use mathlib.Core.List.{List}
 use mathlib.Core.Logic.{_⊎_, inl, inr, ⊎-elim}
-use mathlib.Core.Path.{_≡_, refl, ap, _∙_}
-use Prim.Native.Nat.{ℕ, zero, suc, _+_, _≤_, _<_}
-use native.Mathlib.Nat.{not-suc-le-zero, le-of-suc-le-suc}
+use mathlib.Core.Path.{_≡_, refl, _∙_}
+use Prim.Native.Nat.{ℕ, _+_, _≤_, _<_}
 use native.Mathlib.Omega.{arith}
 use borrow.Author.Tests.{lt-ltb, le-ltb}
 use lib.Bits.{bitOr}
@@ -26,39 +25,23 @@ use Rattle.planner.specs.Sets.{has}
 use Rattle.planner.specs.Told.{jobs-of, latest-of, row-in, Told}
 use Rattle.planner.specs.Unless.{passed}
 use Rattle.planner.specs.Outcome.{Planned, acceptance, Applies}
-use Rattle.planner.specs.Inner.Chains.{Links, joined-of}
+use Rattle.planner.specs.Inner.Chains.{Links, entries, joined-rows}
 use Rattle.planner.proofs.Bits.{only, with-has}
 use Rattle.schedule.proofs.Same.{reads-one, plan-one}
 use Rattle.planner.proofs.Once.{applies-by}
 use Rattle.planner.proofs.Step.{Grows, size-is, job-grows, order-grows, followed-told, told-judged, Tight, with-latest, tight-judged}
-use Rattle.planner.proofs.Join.{joined-links}
-
--- ---- a list by its entries
-from : ℕ → (ℕ → ℕ) → List ℕ
-from zero f = []
-from (suc n) f = f 0 ∷ from n (λ i. f (suc i))
-
-from-length : (n : ℕ) (f : ℕ → ℕ) → length (from n f) ≡ n
-unfolding from
-from-length zero f = refl
-from-length (suc n) f = ap suc (from-length n (λ i. f (suc i)))
-
-from-at : (n : ℕ) (f : ℕ → ℕ) (i : ℕ) → i < n → getD (from n f) i 0 ≡ f i
-unfolding from
-from-at zero f i l = absurd (not-suc-le-zero l)
-from-at (suc n) f zero l = refl
-from-at (suc n) f (suc i) l = from-at n (λ i. f (suc i)) i (le-of-suc-le-suc l)
+use Rattle.planner.proofs.Join.{entries-length, entries-at, rows-long, joined-links}
 
 -- ---- the latest times of a grown book, in a row of 64
 tight-exists : (L : Listed) (grown : Book) → Grows L grown → Planned L → (row : List ℕ) × Tight grown row
 tight-exists L grown g p = (
-  from 64 entry,
+  entries 64 entry,
   record {
-    size = from-length 64 entry;
-    rest = λ i l. ⊎-elim (λ le. List·getD-eq-default (from 64 entry) 0 (omega (arith, from-length 64 entry))) (λ lt. from-at 64 entry i lt ∙ simp (le-ltb i (grown .size) l)) (le-or-lt 64 i);
-    latest = λ early e. latest-along 2 J J (λ i. i) (λ i. i) (reads-one L J J (g .onward .reads) (g .onward .reads)) (g .onward .early) early (latest-of grown) (latest-of grown) (x .0) (row-in (from 64 entry))
+    size = entries-length 64 entry;
+    rest = λ i l. ⊎-elim (λ le. List·getD-eq-default (entries 64 entry) 0 (omega (arith, entries-length 64 entry))) (λ lt. entries-at 64 entry i lt ∙ simp (le-ltb i (grown .size) l)) (le-or-lt 64 i);
+    latest = λ early e. latest-along 2 J J (λ i. i) (λ i. i) (reads-one L J J (g .onward .reads) (g .onward .reads)) (g .onward .early) early (latest-of grown) (latest-of grown) (x .0) (row-in (entries 64 entry))
         (λ i l. earliest-one J early (g .onward .early) e (g .onward .earliest) i l) (λ i l. refl)
-        (λ i l. from-at 64 entry i (omega (arith, g .shaped .few)) ∙ simp (lt-ltb i (grown .size) l)) (x .1);
+        (λ i l. entries-at 64 entry i (omega (arith, g .shaped .few)) ∙ simp (lt-ltb i (grown .size) l)) (x .1);
   },
 )
   where
@@ -76,17 +59,9 @@ tight-exists L grown g p = (
 
 -- ---- rows joined by an order
 links-exist : (old : List ℕ) (a b : ℕ) → length old ≡ 64 → a < 64 → b < 64 → (new : List ℕ) × (length new ≡ 64) × Links a b old new
-links-exist old a b l la lb = (
-  from 64 joined,
-  from-length 64 joined,
-  joined-links old (from 64 joined) a b more l lb (λ x. with-has (getD old a 0) a x la) (record { long = from-length 64 joined; each = from-at 64 joined }),
-)
-  where
-    more : ℕ
-    more = bitOr (getD old a 0) (only a)
-
-    joined : ℕ → ℕ
-    joined y = joined-of (getD old y 0) y b more
+links-exist old a b l la lb =
+    let more = bitOr (getD old a 0) (only a) in
+    (joined-rows old b more, rows-long old b more, joined-links old a b more l lb (λ x. with-has (getD old a 0) a x la))
 
 -- ---- the outcome
 pub record Accepts (k : Book) (q : Request) : Type 0 where

@@ -1,20 +1,23 @@
 -- Rows of sets, joined by an order.
 -- Assumes nothing.
-use mathlib.Core.Bool.{_||_}
+use mathlib.Core.Bool.{Bool, _||_}
 use mathlib.Core.List.{List}
 use mathlib.Core.Logic.{_↔_, _⊎_, inl, inr, ⊎-elim}
-use mathlib.Core.Path.{_≡_, refl, ap, _∙_}
-use Prim.Native.Nat.{ℕ, _≤_, _<_}
+use mathlib.Core.Path.{_≡_, refl, sym, ap, _∙_}
+use Prim.Native.Nat.{ℕ, zero, suc, _≤_, _<_}
+use native.Mathlib.Nat.{not-suc-le-zero, le-of-suc-le-suc}
 use native.Mathlib.Omega.{arith}
-use lib.Bits.{bitOr}
+use lib.Bits.{bitOr, or-zero-r}
 use lib.Dec.{T, eqb, eqb→eq}
 use lib.ListN.{length, getD, List·getD-eq-default}
+use lib.Seq.{ext-getD}
 use Rattle.schedule.proofs.Tests.{le-or-lt, cond-case, or-left, or-right, or-split, eq→eqb}
 use Rattle.schedule.specs.Listed.{Listed, with-order}
 use Rattle.planner.specs.declared.book.Book.{Book}
 use Rattle.planner.specs.Sets.{has}
 use Rattle.planner.specs.Told.{held, Told}
-use Rattle.planner.specs.Inner.Chains.{Links, joined-of, Joined}
+use Rattle.planner.specs.Inner.Chains.{Links, joined-of, entries, joined-rows}
+use Rattle.planner.specs.Inner.Tighten.{Tightenable, Tightens}
 use Rattle.planner.proofs.Bits.{or-has}
 use Rattle.planner.proofs.Step.{Grows, order-grows, none-has, false-T}
 
@@ -38,9 +41,48 @@ joined-same row y b more f g =
     (λ q. absurd (⊎-elim f (λ u. g (eqb→eq b y u)) (or-split (has row b) (eqb b y) q)))
     (λ h. refl)
 
--- all rows joined, where `more` is a and all that precedes a
-pub joined-links : (rows next : List ℕ) (a b more : ℕ) → length rows ≡ 64 → b < 64 → ((x : ℕ) → has more x ≡ (has (getD rows a 0) x || eqb x a)) → Joined rows b more next → Links a b rows next
-joined-links rows next a b more lr hb m j x y = go (le-or-lt 64 y)
+-- nothing more changes no row
+joined-nothing : (row y b : ℕ) → joined-of row y b 0 ≡ row
+joined-nothing row y b = cond-case (λ n. n ≡ row) (has row b || eqb b y) (bitOr row 0) row (λ q. or-zero-r row) (λ h. refl)
+
+-- ---- a list by its entries
+pub entries-length : (n : ℕ) (f : ℕ → ℕ) → length (entries n f) ≡ n
+unfolding entries
+entries-length zero f = refl
+entries-length (suc n) f = ap suc (entries-length n (λ i. f (suc i)))
+
+pub entries-at : (n : ℕ) (f : ℕ → ℕ) (i : ℕ) → i < n → getD (entries n f) i 0 ≡ f i
+unfolding entries
+entries-at zero f i l = absurd (not-suc-le-zero l)
+entries-at (suc n) f zero l = refl
+entries-at (suc n) f (suc i) l = entries-at n (λ i. f (suc i)) i (le-of-suc-le-suc l)
+
+-- ---- all rows joined
+module _ (rows : List ℕ) (b more : ℕ) where
+  pub rows-long : length (joined-rows rows b more) ≡ 64
+  unfolding joined-rows
+  rows-long = entries-length 64 _
+
+  pub rows-at : (y : ℕ) → y < 64 → getD (joined-rows rows b more) y 0 ≡ joined-of (getD rows y 0) y b more
+  unfolding joined-rows
+  rows-at = entries-at 64 _
+
+  pub rows-are : (next : List ℕ) → length next ≡ 64 → ((y : ℕ) → y < 64 → getD next y 0 ≡ joined-of (getD rows y 0) y b more) → next ≡ joined-rows rows b more
+  rows-are next l h = ext-getD 0 next (joined-rows rows b more) (l ∙ sym rows-long) (λ y k. h y (omega arith) ∙ sym (rows-at y (omega arith)))
+
+-- nothing more
+pub rows-same : (rows : List ℕ) (b : ℕ) → length rows ≡ 64 → joined-rows rows b 0 ≡ rows
+rows-same rows b l = sym (rows-are rows b 0 rows l (λ y h. sym (joined-nothing (getD rows y 0) y b)))
+
+pub unjoined-ready : (size : ℕ) (start before row : List ℕ) (b : ℕ) → length before ≡ 64 → Tightenable size start before row → Tightenable size start (joined-rows before b 0) row
+unjoined-ready size start before row b l t = rw (rows-same before b l) t
+
+pub unjoined-tight : (size : ℕ) (start before row next : List ℕ) (fits : Bool) (b : ℕ) → length before ≡ 64 → Tightens size start (joined-rows before b 0) row next fits → Tightens size start before row next fits
+unjoined-tight size start before row next fits b l t = rw (rows-same before b l) at t
+
+-- a and all that precedes a
+pub joined-links : (rows : List ℕ) (a b more : ℕ) → length rows ≡ 64 → b < 64 → ((x : ℕ) → has more x ≡ (has (getD rows a 0) x || eqb x a)) → Links a b rows (joined-rows rows b more)
+joined-links rows a b more lr hb m x y = go (le-or-lt 64 y)
   where
     in-more : (x : ℕ) → T (has more x) ↔ ((x ≡ a) ⊎ T (has (getD rows a 0) x))
     in-more x = (
@@ -51,18 +93,18 @@ joined-links rows next a b more lr hb m j x y = go (le-or-lt 64 y)
     nothing : (l : List ℕ) → length l ≡ 64 → 64 ≤ y → (j : ℕ) → T (has (getD l y 0) j) → ⊥
     nothing l e le j t = false-T _ (ap (λ (n : ℕ). has n j) (List·getD-eq-default l 0 (omega arith)) ∙ none-has j) t
 
-    go : (64 ≤ y) ⊎ (y < 64) → T (has (getD next y 0) x) ↔ (T (has (getD rows y 0) x) ⊎ (((x ≡ a) ⊎ T (has (getD rows a 0) x)) × ((b ≡ y) ⊎ T (has (getD rows y 0) b))))
+    go : (64 ≤ y) ⊎ (y < 64) → T (has (getD (joined-rows rows b more) y 0) x) ↔ (T (has (getD rows y 0) x) ⊎ (((x ≡ a) ⊎ T (has (getD rows a 0) x)) × ((b ≡ y) ⊎ T (has (getD rows y 0) b))))
     go (inl le) = (
-      (λ t. absurd (nothing next (j .long) le x t)),
+      (λ t. absurd (nothing (joined-rows rows b more) (rows-long rows b more) le x t)),
       (λ t. absurd (⊎-elim (λ u. nothing rows lr le x u) (λ u. ⊎-elim (λ e. omega arith) (λ v. nothing rows lr le b v) (u .1)) t)),
     )
-    go (inr lt) = rw (j .each y lt) (
+    go (inr lt) = rw (rows-at rows b more y lt) (
       (λ t. ⊎-elim (λ u. inl u) (λ u. inr (in-more x .0 (u .0), u .1)) (in-joined (getD rows y 0) y b more x .0 t)),
       (λ t. in-joined (getD rows y 0) y b more x .1 (⊎-elim (λ u. inl u) (λ u. inr (in-more x .1 (u .0), u .1)) t)),
     )
 
 -- a book whose rows are so joined
-pub joined-grows : (L : Listed) (k : Book) → Told k L → (a b : ℕ) → a < k .size → b < k .size → (more : ℕ) (next : List ℕ) → ((x : ℕ) → has more x ≡ (has (getD (k .before) a 0) x || eqb x a)) → Joined (k .before) b more next →
-    (a ≡ b → ⊥) → (T (has (getD (k .before) a 0) b) → ⊥) → Grows (with-order L a b) (held (k .size) (k .start) (k .latest) next)
-joined-grows L k t a b la lb more next m j =
-    order-grows L k t a b la lb next (j .long) (joined-links (k .before) next a b more (t .shaped .befores) (omega (arith, t .shaped .few)) m j)
+pub joined-grows : (L : Listed) (k : Book) → Told k L → (a b : ℕ) → a < k .size → b < k .size → (more : ℕ) → ((x : ℕ) → has more x ≡ (has (getD (k .before) a 0) x || eqb x a)) →
+    (a ≡ b → ⊥) → (T (has (getD (k .before) a 0) b) → ⊥) → Grows (with-order L a b) (held (k .size) (k .start) (k .latest) (joined-rows (k .before) b more))
+joined-grows L k t a b la lb more m =
+    order-grows L k t a b la lb (joined-rows (k .before) b more) (rows-long (k .before) b more) (joined-links (k .before) a b more (t .shaped .befores) (omega (arith, t .shaped .few)) m)

@@ -65,6 +65,7 @@ module _ (starts deadlines pairs before : List ℕ) (s : Sound starts deadlines 
     even = s .even;
     room = l;
     few = s .few;
+    rows = spells .long;
     early = λ i h. le-by _ 4095 (λ g. s .jobs i h (inl (inl g)));
     late = λ i h. le-by _ 4096 (λ g. s .jobs i h (inl (inr g)));
     closed = reads-closed L J reads;

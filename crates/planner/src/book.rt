@@ -106,7 +106,7 @@ fn add_job(
     start[new] = begin;
     let mut row = *latest;
     row[new] = deadline;
-    if tighten::tighten(new + 1, start, before, &mut row) {
+    if tighten::tighten(new + 1, start, before, JobIndex(0), 0, &mut row) {
         *size = new + 1;
         *latest = row;
         return Answer::Accepted(new);
@@ -143,13 +143,11 @@ fn add_order<'a>(
     if sets::has(before[b], first) {
         return Answer::Accepted(0);
     }
-    let mut rows = *before;
-    let more = sets::with(rows[a], first);
-    chains::link(size, &mut rows, second, more);
+    let more = sets::with(before[a], first);
     let mut row = *latest;
-    if tighten::tighten(size, start, &rows, &mut row) {
+    if tighten::tighten(size, start, before, second, more, &mut row) {
         *latest = row;
-        *before = rows;
+        chains::link(size, before, second, more);
         return Answer::Accepted(0);
     }
     Answer::Refused(4, 0)
@@ -181,7 +179,7 @@ fn draw_in<'a>(
     }
     let mut row = *latest;
     row[j] = deadline;
-    if tighten::tighten(size, start, before, &mut row) {
+    if tighten::tighten(size, start, before, JobIndex(0), 0, &mut row) {
         *latest = row;
         return Answer::Accepted(0);
     }

@@ -6,12 +6,12 @@ ghost use Prim.Native.Nat.{ℕ, _<_, _≤_};
 ghost use lib.Dec.{T};
 ghost use lib.ListN.{length, getD};
 ghost use Rattle.planner.specs.Sets.{has};
-ghost use Rattle.planner.specs.Inner.Chains.{joined-of, Joined};
+ghost use Rattle.planner.specs.Inner.Chains.{joined-of, joined-rows};
 
 // Row b, and each row that has b, takes in more; no row from size on has b.
 pub fn link(size: usize, rows: &mut [u64; 64], b: JobIndex, more: u64)
     requires { ⌜ (length (now rows) ≡ 64) × (size ≤ 64) × (b .0 < size) × ((y : ℕ) → size ≤ y → T (has (getD (now rows) y 0) (b .0)) → ⊥) ⌝ }
-    ensures { λ _. ⌜ Joined (now (rows .entry)) (b .0) more (now (rows .exit)) ⌝ }
+    ensures { λ _. ⌜ now (rows .exit) ≡ joined-rows (now (rows .entry)) (b .0) more ⌝ }
 {
     let mut y: usize = 0;
     while y < size {
@@ -21,7 +21,7 @@ pub fn link(size: usize, rows: &mut [u64; 64], b: JobIndex, more: u64)
 }
 
 // One such row.
-fn joined(row: u64, y: JobIndex, b: JobIndex, more: u64) -> u64
+pub fn joined(row: u64, y: JobIndex, b: JobIndex, more: u64) -> u64
     requires { ⌜ (y .0 < 64) × (b .0 < 64) ⌝ }
     ensures { λ r. ⌜ r ≡ joined-of row (y .0) (b .0) more ⌝ }
 {

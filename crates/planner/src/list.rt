@@ -157,7 +157,7 @@ fn settle(starts: &[u16], deadlines: &[u16], before: &[u64; 64], latest: &mut [u
     hand_over(starts, size, &mut start);
     let mut row = [0u16; 64];
     hand_over(deadlines, size, &mut row);
-    if tighten::tighten(size, &start, before, &mut row) {
+    if tighten::tighten(size, &start, before, JobIndex(0), 0, &mut row) {
         hand_over(&row, size, latest);
         return Answer::Accepted(0);
     }

@@ -13,6 +13,7 @@ ghost use lib.ListN.{length, getD};
 ghost use Rattle.schedule.specs.Jobs.{Jobs};
 ghost use Rattle.planner.specs.Sets.{has};
 ghost use Rattle.planner.specs.Told.{row-in};
+ghost use Rattle.planner.specs.Inner.Chains.{joined-rows};
 ghost use Rattle.planner.specs.Inner.Tighten.{Tightenable, Tightens};
 ghost use Rattle.planner.specs.Inner.Tables.{Steps, Known};
 ghost use Rattle.planner.specs.Inner.Lower.{DueBy, DueAmong, AtD, Swept, Moves, Settles};
@@ -23,21 +24,23 @@ enum Moved {
     Shut,
 }
 
-// The latest row beneath the row lent, in its place; false where no plan meets it.
+// The latest row beneath the row lent, in its place, once the second job and its followers wait for more jobs; false where no plan meets it.
 pub fn tighten<'a>(
     size: usize,
     start: &'a [u16; 64],
     before: &'a [u64; 64],
+    second: JobIndex,
+    more: u64,
     row: &mut [u16; 64],
 ) -> bool
-    requires { ⌜ Tightenable size (now start) (now before) (now row) ⌝ }
-    ensures { λ r. ⌜ Tightens size (now (start .entry)) (now (before .entry)) (now (row .entry)) (now (row .exit)) r ⌝ }
+    requires { ⌜ (second .0 < 64) × Tightenable size (now start) (joined-rows (now before) (second .0) more) (now row) ⌝ }
+    ensures { λ r. ⌜ Tightens size (now (start .entry)) (joined-rows (now (before .entry)) (second .0) more) (now (row .entry)) (now (row .exit)) r ⌝ }
 {
     let mut early = [0u16; 64];
     let mut order = [0u8; 64];
-    early::earliest(size, start, before, &mut early, &mut order);
+    early::earliest(size, start, before, second, more, &mut early, &mut order);
     let mut followers = [0u64; 64];
-    tables::followers(size, before, &mut followers);
+    tables::followers(size, before, second, more, &mut followers);
     let mut times = [65535u16; 65];
     let mut late = [0u64; 65];
     let mut rank = [0u8; 64];

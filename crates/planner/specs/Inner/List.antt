@@ -57,6 +57,7 @@ pub record Settleable (starts deadlines before row : List ℕ) : Type 0 where
   pub even : length starts ≡ length deadlines
   pub room : length starts ≤ length row
   pub few : length starts ≤ 64
+  pub rows : length before ≡ 64
   pub early : (i : ℕ) → i < length starts → getD starts i 0 ≤ 4095
   pub late : (i : ℕ) → i < length starts → getD deadlines i 0 ≤ 4096
   pub closed : Closed (jobs-in (length starts) starts before)

@@ -1,10 +1,12 @@
 // Earliest times, each job after those that precede it.
+use crate::chains;
 use crate::sets;
 use crate::times::wide;
 use schedule::JobIndex;
 ghost use mathlib.Core.Path.{_≡_};
 ghost use Prim.Native.Nat.{ℕ, _<_};
 ghost use lib.ListN.{length, getD};
+ghost use Rattle.planner.specs.Inner.Chains.{joined-rows};
 ghost use Rattle.planner.specs.Inner.Early.{Free, After, Startable, Begins};
 
 // The earliest times, and the order in which jobs are reached: predecessors first.
@@ -12,18 +14,21 @@ pub fn earliest<'a>(
     size: usize,
     start: &'a [u16; 64],
     before: &'a [u64; 64],
+    second: JobIndex,
+    more: u64,
     early: &mut [u16; 64],
     order: &mut [u8; 64],
 )
-    requires { ⌜ Startable size (now start) (now before) × (length (now early) ≡ 64) × (length (now order) ≡ 64) ⌝ }
-    ensures { λ _. ⌜ Begins size (now (start .entry)) (now (before .entry)) (now (early .exit)) (now (order .exit)) ⌝ }
+    requires { ⌜ (second .0 < 64) × Startable size (now start) (joined-rows (now before) (second .0) more) × (length (now early) ≡ 64) × (length (now order) ≡ 64) ⌝ }
+    ensures { λ _. ⌜ Begins size (now (start .entry)) (joined-rows (now (before .entry)) (second .0) more) (now (early .exit)) (now (order .exit)) ⌝ }
 {
     let mut todo = sets::below(size);
     let mut k: usize = 0;
     while k < size {
-        let job = free(before, todo);
+        let job = free(before, second, more, todo);
         let i = job.0;
-        let time = after(wide(start[i]), before[i], early);
+        let set = chains::joined(before[i], job, second, more);
+        let time = after(wide(start[i]), set, early);
         early[i] = time as u16;
         order[k] = i as u8;
         todo = sets::without(todo, job);
@@ -32,15 +37,15 @@ pub fn earliest<'a>(
 }
 
 // The first job to do that waits for none to do.
-fn free(before: &[u64; 64], todo: u64) -> JobIndex
-    requires { ⌜ ((i : ℕ) × Free i (getD (now before) i 0) todo) ⌝ }
-    ensures { λ r. ⌜ (r .0 < 64) × Free (r .0) (getD (now (before .entry)) (r .0) 0) todo ⌝ }
+fn free(before: &[u64; 64], second: JobIndex, more: u64, todo: u64) -> JobIndex
+    requires { ⌜ (second .0 < 64) × ((i : ℕ) × Free i (getD (joined-rows (now before) (second .0) more) i 0) todo) ⌝ }
+    ensures { λ r. ⌜ (r .0 < 64) × Free (r .0) (getD (joined-rows (now (before .entry)) (second .0) more) (r .0) 0) todo ⌝ }
 {
     let mut rest = todo;
     loop {
         let job = sets::first(rest);
         let i = job.0;
-        if before[i] & todo == 0 {
+        if chains::joined(before[i], job, second, more) & todo == 0 {
             return job;
         }
         rest = sets::rest(rest);

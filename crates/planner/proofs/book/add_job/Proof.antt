@@ -9,6 +9,7 @@ use Rattle.planner.specs.Told.{held}
 use Rattle.planner.specs.Unless.{refused, passed}
 use Rattle.planner.specs.Outcome.{refusal}
 use Rattle.planner.proofs.Step.{size-is, job-grows, grows-ready, fits-judged, none-judged, set-back}
+use Rattle.planner.proofs.Join.{unjoined-ready, unjoined-tight}
 use borrow.Author.Needs.{needs}
 use Rattle.planner.proofs.book.add_job.Statement.{statement}
 use Rattle.planner.proofs.book.add_job.Tie as tie
@@ -49,7 +50,7 @@ add-tighten c = search needs
 tighten-requires : tie.Need-tighten-requires
 tighten-requires c κs =
     let s = c .before .before .before .before .before .before .before .before .before in
-    grows-ready _ _ (job-grows (s .pre .0) _ (s .pre .1) _ _ (omega arith) (omega arith) (omega arith))
+    (omega arith, unjoined-ready _ _ _ _ _ (s .pre .1 .shaped .befores) (grows-ready _ _ (job-grows (s .pre .0) _ (s .pre .1) _ _ (omega arith) (omega arith) (omega arith))))
 
 add-size : tie.Need-add-size
 add-size c = search needs
@@ -57,7 +58,7 @@ add-size c = search needs
 returns-5 : tie.Need-returns-5
 returns-5 c = λ L t.
     passed (λ f. omega (arith, size-is L _ t)) (passed (λ f. ⊎-elim (λ x. omega arith) (λ x. omega arith) f) (passed (λ f. omega arith)
-    (fits-judged _ _ _ _ _ _ (job-grows L _ t _ _ (omega arith) (omega arith) (omega arith)) (c .before .tighten .ensures) _ (size-is L _ t) (c .if5 .taken))))
+    (fits-judged _ _ _ _ _ _ (job-grows L _ t _ _ (omega arith) (omega arith) (omega arith)) (unjoined-tight _ _ _ _ _ _ _ (t .shaped .befores) (c .before .tighten .ensures)) _ (size-is L _ t) (c .if5 .taken))))
 
 mul-start-2 : tie.Need-mul-start-2
 mul-start-2 c = search needs
@@ -69,7 +70,7 @@ returns-6 : tie.Need-returns-6
 returns-6 c = λ L t.
     let a = c .before .before .before .before .before .before .before .before .before .before .before .args in
     passed (λ f. omega (arith, size-is L _ t)) (passed (λ f. ⊎-elim (λ x. omega arith) (λ x. omega arith) f) (passed (λ f. omega arith)
-    (none-judged _ _ _ _ _ _ (job-grows L _ t _ _ (omega arith) (omega arith) (omega arith)) (c .before .tighten .ensures) _
+    (none-judged _ _ _ _ _ _ (job-grows L _ t _ _ (omega arith) (omega arith) (omega arith)) (unjoined-tight _ _ _ _ _ _ _ (t .shaped .befores) (c .before .tighten .ensures)) _
     (ap (λ (row : List ℕ). refusal (held (a .size .now) row (a .latest .now) (a .before .now)) 4) (set-back (a .start .now) (a .size .now) (a .begin))) (c .if5 .left))))
 
 pub add-job-spec : {M : Type 1} → statement M

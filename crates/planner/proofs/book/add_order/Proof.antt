@@ -50,46 +50,50 @@ returns-5 c = λ L t.
 mul-with : tie.Need-mul-with
 mul-with c = search needs
 
-array-read-with : tie.Need-array-read-with
-array-read-with c = search needs
+element-copy-out-with : tie.Need-element-copy-out-with
+element-copy-out-with c = search needs
 
 with-requires : tie.Need-with-requires
 with-requires c κs = search needs
 
-link-requires : tie.Need-link-requires
-link-requires c κs =
-    let start = c .before .before .before .before .before .before .before .before .before .before .before .before in
-    (start .pre .1 .shaped .befores, start .pre .1 .shaped .few, omega arith, (λ y l t. omega (arith, start .pre .1 .shaped .before-rest _ y t .1)))
-
 tighten-requires : tie.Need-tighten-requires
 tighten-requires c κs =
-    let linked = c .before .before .before in
-    let free = linked .before .before .before .before .before .before .before in
+    let w = c .before .before .before in
+    let free = w .before .before .before .before .before in
     let apart = free .before .before .before in
-    let start = apart .before .before .before in
-    grows-ready _ _
-    (joined-grows (start .pre .0) _ (start .pre .1) _ _ (omega arith) (omega arith) _ _ (linked .before .before .with .ensures) (linked .link .ensures) (apart .if3 .left)
-    (false-T _ (sym (free .before .has .ensures) ∙ free .if4 .left)))
+    let start = apart .before .before .before in (
+      omega arith,
+      grows-ready _ _
+          (joined-grows (start .pre .0) _ (start .pre .1) _ _ (omega arith) (omega arith) _ (w .with .ensures) (apart .if3 .left)
+          (false-T _ (sym (free .before .has .ensures) ∙ free .if4 .left))),
+    )
+
+link-requires : tie.Need-link-requires
+link-requires c κs =
+    let start = c .before .before .before .before .before .before .before .before .before .before .before .before .before .before .before .before .before in
+    let s = start .pre .1 .shaped in
+    (s .befores, s .few, omega arith, (λ y l t. omega (arith, s .before-rest _ y t .1)))
 
 returns-6 : tie.Need-returns-6
 returns-6 c = λ L t.
-    let linked = c .before .before .before .before .before in
-    let free = linked .before .before .before .before .before .before .before in
+    let w = c .before .before .before .before .before .before .before in
+    let free = w .before .before .before .before .before in
     let apart = free .before .before .before .if3 .left in
     let no-loop = sym (free .before .has .ensures) ∙ free .if4 .left in
-    passed (λ f. ⊎-elim (λ x. omega (arith, size-is L _ t)) (λ x. omega (arith, size-is L _ t)) f)
+    rw (c .link .ensures)
+    (passed (λ f. ⊎-elim (λ x. omega (arith, size-is L _ t)) (λ x. omega (arith, size-is L _ t)) f)
     (passed (order-free L _ t _ _ (omega arith) (omega arith) apart no-loop)
-    (fits-judged _ _ _ _ _ _ (joined-grows L _ t _ _ (omega arith) (omega arith) _ _ (linked .before .before .with .ensures) (linked .link .ensures) apart (false-T _ no-loop)) (c .before .tighten .ensures) _ refl (c .if6 .taken)))
+    (fits-judged _ _ _ _ _ _ (joined-grows L _ t _ _ (omega arith) (omega arith) _ (w .with .ensures) apart (false-T _ no-loop)) (c .before .before .before .tighten .ensures) _ refl (c .before .before .if6 .taken))))
 
 returns-7 : tie.Need-returns-7
 returns-7 c = λ L t.
-    let linked = c .before .before .before .before .before in
-    let free = linked .before .before .before .before .before .before .before in
+    let w = c .before .before .before .before .before in
+    let free = w .before .before .before .before .before in
     let apart = free .before .before .before .if3 .left in
     let no-loop = sym (free .before .has .ensures) ∙ free .if4 .left in
     passed (λ f. ⊎-elim (λ x. omega (arith, size-is L _ t)) (λ x. omega (arith, size-is L _ t)) f)
     (passed (order-free L _ t _ _ (omega arith) (omega arith) apart no-loop)
-    (none-judged _ _ _ _ _ _ (joined-grows L _ t _ _ (omega arith) (omega arith) _ _ (linked .before .before .with .ensures) (linked .link .ensures) apart (false-T _ no-loop)) (c .before .tighten .ensures) _ refl (c .if6 .left)))
+    (none-judged _ _ _ _ _ _ (joined-grows L _ t _ _ (omega arith) (omega arith) _ (w .with .ensures) apart (false-T _ no-loop)) (c .before .tighten .ensures) _ refl (c .if6 .left)))
 
 pub add-order-spec : {M : Type 1} → statement M
 add-order-spec =
@@ -107,9 +111,9 @@ add-order-spec =
     has-requires-2
     returns-5
     mul-with
-    array-read-with
+    element-copy-out-with
     with-requires
-    link-requires
     tighten-requires
+    link-requires
     returns-6
     returns-7)

@@ -4,6 +4,7 @@ use mathlib.Core.Path.{refl}
 use native.Mathlib.Omega.{arith}
 use Rattle.planner.specs.Unless.{refused, passed}
 use Rattle.planner.proofs.Step.{size-is, kept-told, deadline-grows, grows-ready, told-judged, fits-judged, none-judged}
+use Rattle.planner.proofs.Join.{unjoined-ready, unjoined-tight}
 use borrow.Author.Needs.{needs}
 use Rattle.planner.proofs.book.draw_in.Statement.{statement}
 use Rattle.planner.proofs.book.draw_in.Tie as tie
@@ -42,15 +43,15 @@ array-write-row c = search needs
 tighten-requires : tie.Need-tighten-requires
 tighten-requires c κs =
     let s = c .before .before .before .before .before .before .before .before in
-    grows-ready _ _ (deadline-grows (s .pre .0) _ (s .pre .1) _ _ (omega arith) (omega arith) (omega arith))
+    (omega arith, unjoined-ready _ _ _ _ _ (s .pre .1 .shaped .befores) (grows-ready _ _ (deadline-grows (s .pre .0) _ (s .pre .1) _ _ (omega arith) (omega arith) (omega arith))))
 
 returns-5 : tie.Need-returns-5
 returns-5 c = λ L t. passed (λ f. omega (arith, size-is L _ t)) (passed (λ f. omega arith) (passed (λ f. (omega (arith, t .holds .reads .start (c .before .before .before .before .before .before .before .before .before .before .args .job .0) (omega arith))))
-    (fits-judged _ _ _ _ _ _ (deadline-grows L _ t _ _ (omega arith) (omega arith) (omega arith)) (c .before .tighten .ensures) _ refl (c .if5 .taken))))
+    (fits-judged _ _ _ _ _ _ (deadline-grows L _ t _ _ (omega arith) (omega arith) (omega arith)) (unjoined-tight _ _ _ _ _ _ _ (t .shaped .befores) (c .before .tighten .ensures)) _ refl (c .if5 .taken))))
 
 returns-6 : tie.Need-returns-6
 returns-6 c = λ L t. passed (λ f. omega (arith, size-is L _ t)) (passed (λ f. omega arith) (passed (λ f. (omega (arith, t .holds .reads .start (c .before .before .before .before .before .before .before .before .before .before .args .job .0) (omega arith))))
-    (none-judged _ _ _ _ _ _ (deadline-grows L _ t _ _ (omega arith) (omega arith) (omega arith)) (c .before .tighten .ensures) _ refl (c .if5 .left))))
+    (none-judged _ _ _ _ _ _ (deadline-grows L _ t _ _ (omega arith) (omega arith) (omega arith)) (unjoined-tight _ _ _ _ _ _ _ (t .shaped .befores) (c .before .tighten .ensures)) _ refl (c .if5 .left))))
 
 pub draw-in-spec : {M : Type 1} → statement M
 draw-in-spec =

@@ -10,7 +10,7 @@ use lib.ListN.{length, length-set, getD}
 use lib.Seq.{getD-set-same, getD-set-other}
 use Rattle.schedule.proofs.Tests.{le-or-lt}
 use Rattle.planner.specs.Inner.Chains.{joined-of}
-use Rattle.planner.proofs.Join.{joined-same}
+use Rattle.planner.proofs.Join.{joined-same, rows-are}
 use Rattle.planner.proofs.chains.link.Statement.{statement}
 use Rattle.planner.proofs.chains.link.Tie as tie
 
@@ -62,12 +62,10 @@ returns : tie.Need-returns Inv-loop μ-loop
 returns c =
     let p = c .before in
     let start = p .before in
-    record {
-      long = p .loop .inv .1;
-      each = λ y h. ⊎-elim
-          (λ (l : start .args .size ≤ y). p .loop .inv .3 y (omega arith) ∙ sym (joined-same _ y _ _ (start .pre .3 y l) (λ e. omega arith)))
-          (λ l. p .loop .inv .2 y (omega arith)) (le-or-lt (start .args .size) y);
-    }
+    rows-are _ _ _ _ (p .loop .inv .1)
+    (λ y h. ⊎-elim
+    (λ (l : start .args .size ≤ y). p .loop .inv .3 y (omega arith) ∙ sym (joined-same _ y _ _ (start .pre .3 y l) (λ e. omega arith)))
+    (λ l. p .loop .inv .2 y (omega arith)) (le-or-lt (start .args .size) y))
 
 pub link-spec : {M : Type 1} → statement M
 link-spec =

@@ -1,5 +1,7 @@
 -- `planner::list::settle` meets its contract.
 -- Assumes nothing.
+use native.Mathlib.Omega.{arith}
+use Rattle.planner.proofs.Join.{unjoined-ready, unjoined-tight}
 use Rattle.planner.proofs.Hands.{hands-tightenable, settles-fits, settles-none}
 use borrow.Author.Needs.{needs}
 use Rattle.planner.proofs.list.settle.Statement.{statement}
@@ -18,7 +20,9 @@ hand-over-requires-2 : tie.Need-hand-over-requires-2
 hand-over-requires-2 c κs = search needs
 
 tighten-requires : tie.Need-tighten-requires
-tighten-requires c κs = hands-tightenable _ _ _ _ _ _ (c .before .before .before .before .before .before .before .before .before .before .before .pre) (c .before .before .before .before .before .before .hand-over .ensures) (c .before .before .before .hand-over2 .ensures)
+tighten-requires c κs =
+    let start = c .before .before .before .before .before .before .before .before .before .before .before in
+    (omega arith, unjoined-ready _ _ _ _ _ (start .pre .rows) (hands-tightenable _ _ _ _ _ _ (start .pre) (c .before .before .before .before .before .before .hand-over .ensures) (c .before .before .before .hand-over2 .ensures)))
 
 slice-aggregate-hand-over-3 : tie.Need-slice-aggregate-hand-over-3
 slice-aggregate-hand-over-3 c = search needs
@@ -31,12 +35,17 @@ same-length c = search needs
 
 returns : tie.Need-returns
 returns c =
-    settles-fits _ _ _ _ _ _ (c .before .before .before .before .before .before .before .before .before .before .before .before .before .before .before .before .before .before .pre) (c .before .before .before .before .before .before .before .before .before .before .before .before .before .hand-over .ensures) (c .before .before .before .before .before .before .before .before .before .before .hand-over2 .ensures) _ _
-    (c .before .before .before .before .before .before .tighten .ensures) _ (c .before .before .before .before .before .if1 .taken) (c .before .before .hand-over3 .ensures)
+    let t = c .before .before .before .before .before .before in
+    let start = t .before .before .before .before .before .before .before .before .before .before .before .before in
+    settles-fits _ _ _ _ _ _ (start .pre) (t .before .before .before .before .before .before .before .hand-over .ensures) (t .before .before .before .before .hand-over2 .ensures) _ _
+    (unjoined-tight _ _ _ _ _ _ _ (start .pre .rows) (t .tighten .ensures)) _ (c .before .before .before .before .before .if1 .taken) (c .before .before .hand-over3 .ensures)
 
 returns-2 : tie.Need-returns-2
 returns-2 c =
-    settles-none _ _ _ _ _ _ (c .before .before .before .before .before .before .before .before .before .before .before .before .before .pre) (c .before .before .before .before .before .before .before .before .hand-over .ensures) (c .before .before .before .before .before .hand-over2 .ensures) _ _ (c .before .tighten .ensures) (c .if1 .left)
+    let t = c .before in
+    let start = t .before .before .before .before .before .before .before .before .before .before .before .before in
+    settles-none _ _ _ _ _ _ (start .pre) (t .before .before .before .before .before .before .before .hand-over .ensures) (t .before .before .before .before .hand-over2 .ensures) _ _
+    (unjoined-tight _ _ _ _ _ _ _ (start .pre .rows) (t .tighten .ensures)) (c .if1 .left)
 
 pub settle-spec : {M : Type 1} → statement M
 settle-spec =

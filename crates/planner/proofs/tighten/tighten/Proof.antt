@@ -7,6 +7,7 @@ use borrow.Author.Needs.{needs}
 use lib.ListN.{getD-replicate}
 use Rattle.schedule.specs.Jobs.{Jobs}
 use Rattle.planner.specs.Told.{jobs-in, row-in}
+use Rattle.planner.specs.Inner.Chains.{joined-rows}
 use Rattle.planner.specs.Inner.Tables.{Known}
 use Rattle.planner.specs.Inner.Lower.{Fits}
 use Rattle.planner.proofs.TightenSink.{tightens-settled, tightens-none}
@@ -15,12 +16,12 @@ use Rattle.planner.proofs.tighten.tighten.Tie as tie
 
 -- the jobs of the list, their earliest times, and what the tables tell of them
 abbrev jobs : (c : tie.After-follow) → Jobs
-jobs c = jobs-in (c .before .before .before .before .before .before .before .before .before .before .before .before .before .before .before .args .size) (c .before .before .before .before .before .before .before .before .before .before .before .before .before .before .before .args .start .now) (c .before .before .before .before .before .before .before .before .before .before .before .before .before .before .before .args .before .now)
+jobs c = jobs-in (c .before .before .before .before .before .before .before .before .before .before .before .before .before .before .before .args .size) (c .before .before .before .before .before .before .before .before .before .before .before .before .before .before .before .args .start .now) (joined-rows (c .before .before .before .before .before .before .before .before .before .before .before .before .before .before .before .args .before .now) (c .before .before .before .before .before .before .before .before .before .before .before .before .before .before .before .args .second .0) (c .before .before .before .before .before .before .before .before .before .before .before .before .before .before .before .args .more))
 
 abbrev early : (c : tie.After-follow) → ℕ → ℕ
-early c = row-in (c .before .before .before .before .before .before .before .before .before .before .before .before .earliest .last .1 .1 .1 .0)
+early c = row-in (c .before .before .before .before .before .before .before .before .before .before .before .before .earliest .last .1 .1 .1 .1 .1 .0)
 
-known : (c : tie.After-follow) → Known (jobs c) (early c) (c .before .before .before .before .before .before .before .before .before .before .followers2 .last .1 .1 .0) (c .before .before .before .before .before .levels .last .1 .1 .0) (c .before .before .before .before .before .levels .last .1 .1 .1 .0) (c .before .before .before .before .before .levels .last .1 .1 .1 .1 .0)
+known : (c : tie.After-follow) → Known (jobs c) (early c) (c .before .before .before .before .before .before .before .before .before .before .followers2 .last .1 .1 .1 .1 .0) (c .before .before .before .before .before .levels .last .1 .1 .0) (c .before .before .before .before .before .levels .last .1 .1 .1 .0) (c .before .before .before .before .before .levels .last .1 .1 .1 .1 .0)
 known c = record { levels = c .before .before .before .before .before .levels .ensures .0; ranks = c .before .before .before .before .before .levels .ensures .1; earliest = c .before .before .before .before .before .before .before .before .before .before .before .before .earliest .ensures .earliest; follow = λ i j l. c .before .before .before .before .before .before .before .before .before .before .followers2 .ensures i j }
 
 -- each job one below its least follower
@@ -29,25 +30,26 @@ fits c = c .follow .ensures .1 (jobs c) (early c) refl (known c .follow) (known 
 
 earliest-requires : tie.Need-earliest-requires
 earliest-requires c κs =
-    let p = c .before .before .pre in
-    (record { few = p .few; starts = p .early; closed = p .closed; loopless = p .loopless; held = p .held }, refl, refl)
+    let start = c .before .before in
+    let p = start .pre .1 in
+    (start .pre .0, record { few = p .few; starts = p .early; closed = p .closed; loopless = p .loopless; held = p .held }, refl, refl)
 
 followers-requires : tie.Need-followers-requires
-followers-requires c κs = (c .before .before .before .before .pre .few, refl, (λ i l. getD-replicate 64 i 0 0 l))
+followers-requires c κs = let p = c .before .before .before .before .pre in (p .0, p .1 .few, refl, (λ i l. getD-replicate 64 i 0 0 l))
 
 levels-requires : tie.Need-levels-requires
-levels-requires c κs = (c .before .before .before .before .before .before .before .before .before .pre .few, c .before .before .before .before .before .before .earliest .ensures .low, (refl, refl, refl), (λ k l. (getD-replicate 65 k 65535 0 l, getD-replicate 65 k 0 0 l)))
+levels-requires c κs = (c .before .before .before .before .before .before .before .before .before .pre .1 .few, c .before .before .before .before .before .before .earliest .ensures .low, (refl, refl, refl), (λ k l. (getD-replicate 65 k 65535 0 l, getD-replicate 65 k 0 0 l)))
 
 below-requires : tie.Need-below-requires
 below-requires c κs = search needs
 
 follow-requires : tie.Need-follow-requires
-follow-requires c κs = (c .before .before .before .before .before .before .before .before .before .before .before .before .before .before .pre .few, c .before .before .before .before .before .before .before .before .before .before .before .before .before .before .pre .long, c .before .before .before .before .before .before .before .before .before .before .before .earliest .ensures .jobs)
+follow-requires c κs = (c .before .before .before .before .before .before .before .before .before .before .before .before .before .before .pre .1 .few, c .before .before .before .before .before .before .before .before .before .before .before .before .before .before .pre .1 .long, c .before .before .before .before .before .before .before .before .before .before .before .earliest .ensures .jobs)
 
 settled-requires : tie.Need-settled-requires
 settled-requires c κs =
     let f = c .before .before .before .before .before .before .before in
-    let p = f .before .before .before .before .before .before .before .before .before .before .before .before .before .before .before .pre in (
+    let p = f .before .before .before .before .before .before .before .before .before .before .before .before .before .before .before .pre .1 in (
       p .few,
       f .follow .ensures .0,
       f .before .before .before .before .before .before .before .before .before .before .before .before .earliest .ensures .jobs,
@@ -61,14 +63,14 @@ returns : tie.Need-returns
 returns c =
     let f = c .before .before .before .before .before .before .before .before in
     let a = f .before .before .before .before .before .before .before .before .before .before .before .before .before .before .before .args in
-    tightens-settled (a .size) (a .start .now) (a .before .now) (a .row .now) (c .settled .last .1 .1 .1 .1 .1 .1 .0) (c .settled .ensures .0)
-    (f .before .before .before .before .before .before .before .before .before .before .before .before .earliest .last .1 .1 .1 .0) (f .follow .last .1 .1 .1 .1 .0) (c .settled .result)
+    tightens-settled (a .size) (a .start .now) (joined-rows (a .before .now) (a .second .0) (a .more)) (a .row .now) (c .settled .last .1 .1 .1 .1 .1 .1 .0) (c .settled .ensures .0)
+    (f .before .before .before .before .before .before .before .before .before .before .before .before .earliest .last .1 .1 .1 .1 .1 .0) (f .follow .last .1 .1 .1 .1 .0) (c .settled .result)
     (known f .earliest) (fits f .sunk (c .before .before .before .before .before .before .before .if1 .taken)) (c .settled .ensures .1 (jobs f) (early f) refl (known f))
 
 returns-2 : tie.Need-returns-2
 returns-2 c =
     let a = c .before .before .before .before .before .before .before .before .before .before .before .before .before .before .before .before .args in
-    tightens-none (a .size) (a .start .now) (a .before .now) (a .row .now) (c .before .follow .last .1 .1 .1 .1 .0) (c .before .follow .ensures .0) (fits (c .before) .none (c .if1 .left))
+    tightens-none (a .size) (a .start .now) (joined-rows (a .before .now) (a .second .0) (a .more)) (a .row .now) (c .before .follow .last .1 .1 .1 .1 .0) (c .before .follow .ensures .0) (fits (c .before) .none (c .if1 .left))
 
 pub tighten-spec : {M : Type 1} → statement M
 tighten-spec =

@@ -1,29 +1,43 @@
 -- `planner::tighten::early::earliest` meets its contract.
 -- Assumes nothing.
+use mathlib.Core.Path.{_≡_, sym, _∙_}
 use Prim.Native.Nat.{_-_}
 use native.Mathlib.Omega.{arith}
+use lib.ListN.{getD}
+use Rattle.planner.specs.Inner.Chains.{joined-rows}
+use Rattle.planner.specs.Inner.Early.{After}
+use Rattle.planner.proofs.Join.{rows-at}
 use Rattle.planner.proofs.TightenEarly.{Making, making-start, making-free, making-time, making-next, making-end}
 use borrow.Author.Needs.{needs}
 use Rattle.planner.proofs.tighten.early.earliest.Statement.{statement}
 use Rattle.planner.proofs.tighten.early.earliest.Tie as tie
 
 abbrev Inv-loop : tie.InvT-loop
-Inv-loop size start before early₀ order₀ todo₀ k₀ early order todo k = Making size start before early order todo k
+Inv-loop size start before second more early₀ order₀ todo₀ k₀ early order todo k = Making size start (joined-rows before (second .0) more) early order todo k
 
 abbrev μ-loop : tie.MeasureT-loop
-μ-loop size start before early₀ order₀ todo₀ k₀ early order todo k = size - k
+μ-loop size start before second more early₀ order₀ todo₀ k₀ early order todo k = size - k
 
 below-requires : tie.Need-below-requires Inv-loop μ-loop
-below-requires c κs = c .pre .0 .few
+below-requires c κs = c .pre .1 .few
 
 loop-holds : tie.Need-loop-holds Inv-loop μ-loop
-loop-holds c = making-start _ _ _ (c .before .pre .0) _ _ _ (c .before .pre .1) (c .before .pre .2) (c .below .ensures)
+loop-holds c = making-start _ _ _ (c .before .pre .1) _ _ _ (c .before .pre .2) (c .before .pre .3) (c .below .ensures)
 
 free-requires : tie.Need-free-requires Inv-loop μ-loop
 free-requires c κs =
     let p = c .before in
-    let a = p .before .before .args in
-    making-free (a .size) (a .start .now) (a .before .now) (p .before .before .pre .0) (p .loop .early) (p .loop .order) (p .loop .todo) (p .loop .k) (p .loop .inv) (search needs)
+    let start = p .before .before in
+    (start .pre .0, making-free (start .args .size) (start .args .start .now) _ (start .pre .1) (p .loop .early) (p .loop .order) (p .loop .todo) (p .loop .k) (p .loop .inv) (search needs))
+
+mul-joined : tie.Need-mul-joined Inv-loop μ-loop
+mul-joined c = search needs
+
+element-copy-out-joined : tie.Need-element-copy-out-joined Inv-loop μ-loop
+element-copy-out-joined c = search needs
+
+joined-requires : tie.Need-joined-requires Inv-loop μ-loop
+joined-requires c κs = search needs
 
 mul-wide : tie.Need-mul-wide Inv-loop μ-loop
 mul-wide c = search needs
@@ -34,22 +48,26 @@ element-copy-out-wide c = search needs
 wide-requires : tie.Need-wide-requires Inv-loop μ-loop
 wide-requires c κs = search needs
 
-mul-after : tie.Need-mul-after Inv-loop μ-loop
-mul-after c = search needs
-
-element-copy-out-after : tie.Need-element-copy-out-after Inv-loop μ-loop
-element-copy-out-after c = search needs
-
 after-requires : tie.Need-after-requires Inv-loop μ-loop
 after-requires c κs = search needs
 
+-- what is read is the start and the joined row of the job
+timed : (c : tie.After-after Inv-loop μ-loop) → let f = c .before .before .before .before .before .before in let a = f .before .before .before .before .args in
+    After (getD (a .start .now) (f .free .result .0) 0) (getD (joined-rows (a .before .now) (a .second .0) (a .more)) (f .free .result .0) 0) (f .before .before .loop .early) (c .after .result)
+timed c =
+    let w = c .before .before in
+    let j = w .before .before in
+    let f = j .before .before in
+    let a = f .before .before .before .before .args in
+    let read : j .joined .result ≡ getD (joined-rows (a .before .now) (a .second .0) (a .more)) (f .free .result .0) 0 = j .joined .ensures ∙ sym (rows-at _ _ _ _ (f .free .ensures .0)) in
+    rw (w .wide .ensures .0, read) at (c .after .ensures)
+
 cast-early : tie.Need-cast-early Inv-loop μ-loop
 cast-early c =
-    let p = c .before .before .before .before .before .before .before in
-    let a = p .before .before .args in
-    let f = c .before .before .before .before .before .free in
-    let w = c .before .before .before .wide .ensures .0 in
-    omega (arith, making-time (a .size) (a .start .now) (a .before .now) (p .before .before .pre .0) (p .loop .early) (p .loop .order) (p .loop .todo) (p .loop .k) (p .loop .inv) (f .result .0) (f .ensures .1) (c .after .result) (rw w at (c .after .ensures)))
+    let f = c .before .before .before .before .before .before in
+    let p = f .before .before in
+    let start = p .before .before in
+    omega (arith, making-time (start .args .size) (start .args .start .now) _ (start .pre .1) (p .loop .early) (p .loop .order) (p .loop .todo) (p .loop .k) (p .loop .inv) (f .free .result .0) (f .free .ensures .1) (c .after .result) (timed c))
 
 mul-early : tie.Need-mul-early Inv-loop μ-loop
 mul-early c = search needs
@@ -74,17 +92,16 @@ loop-less c = search needs
 
 loop-again : tie.Need-loop-again Inv-loop μ-loop
 loop-again c =
-    let p = c .before .before .before .before .before .before .before .before in
-    let a = p .before .before .args in
-    let f = c .before .before .before .before .before .before .free in
-    let w = c .before .before .before .before .wide .ensures .0 in
-    making-next (a .size) (a .start .now) (a .before .now) (p .before .before .pre .0) (p .loop .early) (p .loop .order) (p .loop .todo) (p .loop .k) (p .loop .inv) (f .result .0) (f .ensures .1) (c .before .after .result) (rw w at (c .before .after .ensures)) (search needs) (c .without .result) (c .without .ensures)
+    let f = c .before .before .before .before .before .before .before in
+    let p = f .before .before in
+    let start = p .before .before in
+    making-next (start .args .size) (start .args .start .now) _ (start .pre .1) (p .loop .early) (p .loop .order) (p .loop .todo) (p .loop .k) (p .loop .inv) (f .free .result .0) (f .free .ensures .1) (c .before .after .result) (timed (c .before)) (search needs) (c .without .result) (c .without .ensures)
 
 returns : tie.Need-returns Inv-loop μ-loop
 returns c =
     let p = c .before in
-    let a = p .before .before .args in
-    making-end (a .size) (a .start .now) (a .before .now) (p .before .before .pre .0) (p .loop .early) (p .loop .order) (p .loop .todo) (p .loop .k) (p .loop .inv) (search needs)
+    let start = p .before .before in
+    making-end (start .args .size) (start .args .start .now) _ (start .pre .1) (p .loop .early) (p .loop .order) (p .loop .todo) (p .loop .k) (p .loop .inv) (search needs)
 
 pub earliest-spec : {M : Type 1} → statement M
 earliest-spec =
@@ -95,11 +112,12 @@ earliest-spec =
     below-requires
     loop-holds
     free-requires
+    mul-joined
+    element-copy-out-joined
+    joined-requires
     mul-wide
     element-copy-out-wide
     wide-requires
-    mul-after
-    element-copy-out-after
     after-requires
     cast-early
     mul-early

@@ -1,59 +1,69 @@
 -- `planner::tighten::early::free` meets its contract: some free job is not passed yet.
 -- Assumes nothing.
 use mathlib.Core.Logic.{⊎-elim}
-use mathlib.Core.Path.{_≡_, sym, subst}
+use mathlib.Core.Path.{_≡_, sym, subst, _∙_}
 use Prim.Native.Nat.{ℕ}
 use lib.Dec.{T}
 use lib.ListN.{getD}
 use Rattle.schedule.specs.Count.{count}
 use Rattle.planner.specs.Sets.{has}
+use Rattle.planner.specs.Inner.Chains.{joined-rows}
 use Rattle.planner.specs.Inner.Early.{Free}
 use Rattle.planner.proofs.Bits.{apart-is, apart-has, has-some, rest-walk, walk-less, walk-split, walk-sub}
+use Rattle.planner.proofs.Join.{rows-at}
 use borrow.Author.Needs.{needs}
 use Rattle.planner.proofs.tighten.early.free.Statement.{statement}
 use Rattle.planner.proofs.tighten.early.free.Tie as tie
 
 abbrev Inv-loop : tie.InvT-loop
-Inv-loop before todo rest₀ rest = ((j : ℕ) → T (has rest j) → T (has todo j)) × ((f : ℕ) × T (has rest f) × Free f (getD before f 0) todo)
+Inv-loop before second more todo rest₀ rest = ((j : ℕ) → T (has rest j) → T (has todo j)) × ((f : ℕ) × T (has rest f) × Free f (getD (joined-rows before (second .0) more) f 0) todo)
 
 abbrev μ-loop : tie.MeasureT-loop
-μ-loop before todo rest₀ rest = count 64 (has rest)
+μ-loop before second more todo rest₀ rest = count 64 (has rest)
 
 loop-holds : tie.Need-loop-holds Inv-loop μ-loop
-loop-holds c = ((λ j t. t), (c .pre .0, c .pre .1 .member, c .pre .1))
+loop-holds c = ((λ j t. t), (c .pre .1 .0, c .pre .1 .1 .member, c .pre .1 .1))
 
 first-requires : tie.Need-first-requires Inv-loop μ-loop
 first-requires c κs = has-some _ (c .loop .inv .1 .0) (c .loop .inv .1 .1)
 
-mul-if1 : tie.Need-mul-if1 Inv-loop μ-loop
-mul-if1 c = search needs
+mul-joined : tie.Need-mul-joined Inv-loop μ-loop
+mul-joined c = search needs
 
-element-copy-out-if1 : tie.Need-element-copy-out-if1 Inv-loop μ-loop
-element-copy-out-if1 c = search needs
+element-copy-out-joined : tie.Need-element-copy-out-joined Inv-loop μ-loop
+element-copy-out-joined c = search needs
+
+joined-requires : tie.Need-joined-requires Inv-loop μ-loop
+joined-requires c κs = search needs
+
+-- the row read is the joined row's
+read : (c : tie.After-joined Inv-loop μ-loop) → c .joined .result ≡ getD (joined-rows (c .before .before .before .before .args .before .now) (c .before .before .before .before .args .second .0) (c .before .before .before .before .args .more)) (c .before .before .first .result .0) 0
+read c = c .joined .ensures ∙ sym (rows-at _ _ _ _ (c .before .before .first .ensures .0))
 
 returns : tie.Need-returns Inv-loop μ-loop
 returns c =
-    let f = c .before .before .first in
-    (f .ensures .0, record { member = c .before .before .before .loop .inv .0 (f .result .0) (f .ensures .1); ready = apart-has _ _ (c .if1 .taken) })
+    let f = c .before .before .before .first in
+    (f .ensures .0, record { member = c .before .before .before .before .loop .inv .0 (f .result .0) (f .ensures .1); ready = apart-has _ _ (rw (read (c .before)) at (c .if1 .taken)) })
 
 rest-requires : tie.Need-rest-requires Inv-loop μ-loop
-rest-requires c κs = has-some _ (c .before .before .before .loop .inv .1 .0) (c .before .before .before .loop .inv .1 .1)
+rest-requires c κs = let p = c .before .before .before .before in has-some _ (p .loop .inv .1 .0) (p .loop .inv .1 .1)
 
 loop-less : tie.Need-loop-less Inv-loop μ-loop
 loop-less c =
-    let f = c .before .before .before .first in
-    walk-less (c .before .before .before .before .loop .rest) (c .rest .result) (f .result .0) (rest-walk _ _ _ (f .ensures .3) (c .rest .ensures)) (f .ensures .0) (f .ensures .1)
+    let f = c .before .before .before .before .first in
+    walk-less (c .before .before .before .before .before .loop .rest) (c .rest .result) (f .result .0) (rest-walk _ _ _ (f .ensures .3) (c .rest .ensures)) (f .ensures .0) (f .ensures .1)
 
 loop-again : tie.Need-loop-again Inv-loop μ-loop
 loop-again c =
-    let p = c .before .before .before .before in
+    let p = c .before .before .before .before .before in
     let a = p .before .args in
-    let f = c .before .before .before .first in
+    let rows = joined-rows (a .before .now) (a .second .0) (a .more) in
+    let f = c .before .before .before .before .first in
     let w = rest-walk (p .loop .rest) (c .rest .result) (f .result .0) (f .ensures .3) (c .rest .ensures) in
     let g = p .loop .inv .1 in
-    let x : Free (f .result .0) (getD (a .before .now) (f .result .0) 0) (a .todo) → ⊥ = λ y. c .before .if1 .left (apart-is _ _ (p .before .fits .todo .fits) (y .ready)) in (
+    let x : Free (f .result .0) (getD rows (f .result .0) 0) (a .todo) → ⊥ = λ y. c .before .if1 .left (apart-is _ _ (p .before .fits .todo .fits) (rw (← read (c .before .before)) at (y .ready))) in (
       (λ j t. p .loop .inv .0 j (walk-sub (p .loop .rest) (c .rest .result) (f .result .0) w j t)),
-      ⊎-elim (λ e. absurd (x (subst (λ (n : ℕ). Free n (getD (a .before .now) n 0) (a .todo)) e (g .2)))) (λ t. (g .0, t, g .2)) (walk-split (p .loop .rest) (c .rest .result) (f .result .0) w (g .0) (g .1)),
+      ⊎-elim (λ e. absurd (x (subst (λ (n : ℕ). Free n (getD rows n 0) (a .todo)) e (g .2)))) (λ t. (g .0, t, g .2)) (walk-split (p .loop .rest) (c .rest .result) (f .result .0) w (g .0) (g .1)),
     )
 
 pub free-spec : {M : Type 1} → statement M
@@ -64,8 +74,9 @@ free-spec =
     μ-loop
     loop-holds
     first-requires
-    mul-if1
-    element-copy-out-if1
+    mul-joined
+    element-copy-out-joined
+    joined-requires
     returns
     rest-requires
     loop-less
