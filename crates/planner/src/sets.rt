@@ -31,13 +31,6 @@ pub fn without(set: u64, job: JobIndex) -> u64
     set & !(1u64 << job.0)
 }
 
-// The set without the jobs of another.
-pub fn except(set: u64, others: u64) -> u64
-    ensures { λ r. ⌜ ((j : ℕ) → has r j ≡ (has set j && not (has others j))) ⌝ }
-{
-    set & !others
-}
-
 // How many jobs are in the set.
 pub fn size(set: u64) -> usize
     ensures { λ r. ⌜ r ≡ count 64 (has set) ⌝ }

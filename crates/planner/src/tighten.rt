@@ -6,6 +6,7 @@ mod tables;
 
 use crate::sets;
 use crate::times::wide;
+use schedule::JobIndex;
 ghost use mathlib.Core.Path.{_≡_};
 ghost use Prim.Native.Nat.{ℕ, _<_, _≤_};
 ghost use lib.Dec.{T};
