@@ -1,4 +1,4 @@
--- Demand 2: a plan handed out is valid, in time, and finishes when told; "no plan" only where there is none; a book written and read is the same book.
+-- Demand 2: a plan handed out is valid, in time, finishes when told, and shows nothing else; "no plan" only where there is none; a book written and read is the same book.
 -- Assumes nothing.
 use mathlib.Core.Bool.{_||_}
 use mathlib.Core.List.{List, _++_}

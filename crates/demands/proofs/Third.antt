@@ -1,4 +1,5 @@
 -- Demand 3: a run leaves the book that the definition gives for the remaining list handed in at once, and 4 is told exactly where that list has no plan.
+-- Beside it, the rule that a request that says nothing new changes nothing.
 -- Assumes nothing.
 use mathlib.Core.List.{List, [], _∷_, _++_}
 use mathlib.Core.Logic.{⊎-elim}
