@@ -1,5 +1,5 @@
--- The customer's three demands, of what the public calls promise: apply (`Applies`), judge (`Judges`), plan (`Plans`), place (`Places`),
--- read (`ReadsRecord`), read_file (`ReadsFile`) and write (`WritesBook`). That a call ends is what a proved function means.
+-- The customer's three demands, of what the public calls promise: apply and amend (`Applies`), judge (`Judges`), plan (`Plans`), place (`Places`),
+-- read and read_into (`ReadsRecord`), read_file (`ReadsFile`) and write (`WritesBook`). That a call ends is what a proved function means.
 -- Assumes nothing.
 use mathlib.Core.List.{List, _++_}
 use mathlib.Core.Logic.{_↔_, _⊎_}
