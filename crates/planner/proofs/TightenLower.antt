@@ -8,7 +8,7 @@ use native.Mathlib.Omega.{arith}
 use lib.Dec.{T}
 use Rattle.schedule.specs.Jobs.{Jobs}
 use Rattle.schedule.specs.Plan.{Valid, Meets, HasPlan}
-use Rattle.schedule.specs.Times.{N, up, left, Breach, Consistent, Raised, Earliest, Beneath}
+use Rattle.schedule.specs.Times.{N, up, Breach, Consistent, Raised, Earliest, Beneath}
 use Rattle.schedule.proofs.Rows.{put-all, put-le}
 use Rattle.schedule.proofs.Sound.{valid-above}
 use Rattle.schedule.proofs.Facts.{follower-later}

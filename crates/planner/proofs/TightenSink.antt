@@ -45,9 +45,6 @@ module _ (J : Jobs) (early : ℕ → ℕ) where
     pub none-join : (HasPlan 2 J (row-in row) → ⊥) → HasPlan 2 J (row-in first) → ⊥
     none-join f p = f (p .0, p .1, q .bound .plans (p .0) (p .1) (p .2))
 
-    pub fell-join : Sunk J early row next → Fell J row next → Fell J first next
-    fell-join r f = (f .0, f .1, omega (arith, f .2, q .bound .beneath (f .0) (f .1)))
-
     pub fell-then : (last : List ℕ) → Fell J row next → Sunk J early next last → Fell J first last
     fell-then last f r = (f .0, f .1, omega (arith, f .2, q .bound .beneath (f .0) (f .1), r .bound .beneath (f .0) (f .1)))
 
