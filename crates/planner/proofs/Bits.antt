@@ -292,7 +292,7 @@ module _ (x y k : ℕ) (w : (j : ℕ) → has y j ≡ (has x j && not (eqb j k))
   pub walk-out : T (has y k) → ⊥
   walk-out t = T-not (eqb k k) (and-snd (has x k) (not (eqb k k)) (rw (w k) at t)) (eqb-refl k)
 
-  pub walk-less : k < 64 → T (has x k) → count 64 (has y) < count 64 (has x)
+  walk-less : k < 64 → T (has x k) → count 64 (has y) < count 64 (has x)
   walk-less l t = count-lt 64 (has y) (has x) k l (λ j h. walk-sub j) t walk-out
 
   pub walk-one : k < 64 → T (has x k) → count 64 (has x) ≡ count 64 (has y) + 1
@@ -300,6 +300,10 @@ module _ (x y k : ℕ) (w : (j : ℕ) → has y j ≡ (has x j && not (eqb j k))
       let but : count 64 (λ j. not (eqb j k) && has x j) ≤ count 64 (has y) = count-mono 64 (λ j. not (eqb j k) && has x j) (has y)
       (λ j h u. rw (w j) (and-pair (has x j) (not (eqb j k)) (and-snd (not (eqb j k)) (has x j) u) (and-fst (not (eqb j k)) (has x j) u))) in
       omega (arith, walk-less l t, count-but 64 (has x) k)
+
+-- the walk over a set with its first job taken out is shorter
+pub rest-less : (x y k : ℕ) → k < 64 → T (has x k) → k ≡ least x → ((j : ℕ) → has y j ≡ (has x j && not (eqb j (least x)))) → count 64 (has y) < count 64 (has x)
+rest-less x y k l t e w = walk-less x y k (rest-walk x y k e w) l t
 
 -- sets apart have an empty meet
 none-both : (a b : Bool) → (T a → T b → ⊥) → (a && b) ≡ false

@@ -13,7 +13,7 @@ use Rattle.schedule.specs.Jobs.{Jobs}
 use Rattle.planner.specs.Told.{row-in}
 use Rattle.planner.specs.Inner.Tables.{Known}
 use Rattle.planner.specs.Inner.Lower.{DueBy, Ruled}
-use Rattle.planner.proofs.Bits.{rest-walk, walk-less, walk-sub}
+use Rattle.planner.proofs.Bits.{rest-walk, rest-less, walk-sub}
 use Rattle.planner.proofs.TightenSink.{Lowering, lowering-start, lowering-moved, lowering-kept, lowering-moves, due-job, stored-low, sunk-none}
 use Rattle.planner.proofs.tighten.lower_at.Statement.{statement}
 use Rattle.planner.proofs.tighten.lower_at.Tie as tie
@@ -104,7 +104,7 @@ rest-requires c κs = search needs
 loop-less : tie.Need-loop-less Inv-loop μ-loop
 loop-less c =
     let f = c .before .before .before .before .before .before .before .before .first in
-    walk-less (c .before .before .before .before .before .before .before .before .before .before .loop .rest) (c .rest .result) (f .result .0) (rest-walk _ _ _ (f .ensures .3) (c .rest .ensures)) (f .ensures .0) (f .ensures .1)
+    rest-less _ _ _ (f .ensures .0) (f .ensures .1) (f .ensures .3) (c .rest .ensures)
 
 loop-again : tie.Need-loop-again Inv-loop μ-loop
 loop-again c =

@@ -12,7 +12,7 @@ use Rattle.schedule.specs.Jobs.{Jobs}
 use Rattle.schedule.specs.Times.{Raised}
 use Rattle.planner.specs.Told.{row-in}
 use Rattle.planner.specs.Inner.Lower.{Eased}
-use Rattle.planner.proofs.Bits.{rest-walk, walk-less, walk-sub}
+use Rattle.planner.proofs.Bits.{rest-walk, rest-less, walk-sub}
 use Rattle.planner.proofs.TightenLower.{eased-same, eased-follow}
 use Rattle.planner.proofs.tighten.follow.capped.Statement.{statement}
 use Rattle.planner.proofs.tighten.follow.capped.Tie as tie
@@ -53,7 +53,7 @@ rest-requires c κs = search needs
 loop-less : tie.Need-loop-less Inv-loop μ-loop
 loop-less c =
     let k = c .before .before .before .first in
-    walk-less (c .before .before .before .before .before .loop .rest) (c .rest .result) (k .result .0) (rest-walk _ _ _ (k .ensures .3) (c .rest .ensures)) (k .ensures .0) (k .ensures .1)
+    rest-less _ _ _ (k .ensures .0) (k .ensures .1) (k .ensures .3) (c .rest .ensures)
 
 loop-again : tie.Need-loop-again Inv-loop μ-loop
 loop-again c =
