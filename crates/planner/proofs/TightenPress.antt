@@ -15,7 +15,8 @@ use Rattle.schedule.specs.Jobs.{Jobs}
 use Rattle.schedule.specs.Times.{N, presses}
 use Rattle.schedule.proofs.Tests.{le-or-lt}
 use Rattle.schedule.proofs.Press.{N-mono, N-bound}
-use Rattle.planner.specs.Sets.{has, pressed}
+use Rattle.planner.specs.Sets.{has}
+use Rattle.planner.specs.Inner.Sets.{pressed}
 use Rattle.planner.specs.Inner.Lower.{At, Pressure}
 use Rattle.planner.proofs.Bits.{count-cut}
 

@@ -25,9 +25,10 @@ use Rattle.planner.specs.Sets.{has}
 use Rattle.planner.specs.Told.{jobs-in, row-in}
 use Rattle.planner.specs.Inner.Tables.{Follows}
 use Rattle.planner.specs.Inner.Tighten.{Tightens}
-use Rattle.planner.specs.Inner.Lower.{DueBy, DueBelow, Clear, Eased, Ruled, Sunk, Fell, Moves, AtD, Swept, Settles}
+use Rattle.planner.specs.Inner.Lower.{DueBy, Clear, Eased, Ruled, Sunk, Fell, Moves, AtD, Swept, Settles}
 use Rattle.planner.proofs.Bits.{and-has, has-some, walk-split}
 use Rattle.schedule.proofs.Same.{latest-any}
+use Rattle.planner.proofs.TightenDue.{DueBelow}
 use Rattle.planner.proofs.TightenLower.{bound-join, bound-same, bound-none}
 
 holds : (b : Bool) → T b → b ≡ true

@@ -90,12 +90,6 @@ pub record DueAmong (limit among : ℕ) (row : List ℕ) (r : Due) : Type 0 wher
   pub top : (j : ℕ) → T (has (r .jobs) j) → getD row j 0 ≤ r .d
   pub some : (r .jobs ≡ 0 → ⊥) → r .d < limit
 
--- the same of all jobs of the row
-pub record DueBelow (limit size : ℕ) (row : List ℕ) (r : Due) : Type 0 where
-  pub jobs : (j : ℕ) → has (r .jobs) j ≡ (ltb j size && ltb (getD row j 0) limit)
-  pub top : (j : ℕ) → T (has (r .jobs) j) → getD row j 0 ≤ r .d
-  pub some : (r .jobs ≡ 0 → ⊥) → r .d < limit
-
 -- the greatest consistent row beneath, or none
 pub record Settles (J : Jobs) (early : ℕ → ℕ) (row next : List ℕ) (fits : Bool) : Type 0 where
   pub sunk : fits ≡ true → Sunk J early row next

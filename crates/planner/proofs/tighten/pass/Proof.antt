@@ -12,8 +12,8 @@ use Rattle.planner.specs.declared.tighten.Moved.{Moved}
 use Rattle.planner.specs.declared.tighten.Moved.the-variants.{Jobs as Those}
 use Rattle.planner.specs.Told.{row-in}
 use Rattle.planner.specs.Inner.Tables.{Known}
-use Rattle.planner.specs.Inner.Lower.{DueBelow, Moves, AtD}
-use Rattle.planner.proofs.TightenDue.{Among, among-start, among-next, due-all, due-by, below-job}
+use Rattle.planner.specs.Inner.Lower.{Moves, AtD}
+use Rattle.planner.proofs.TightenDue.{Among, DueBelow, among-start, among-next, due-all, due-by, below-job}
 use Rattle.planner.proofs.TightenSink.{Passing, passing-start, passing-still, passing-moved, passing-moves, none-join, or-some}
 use Rattle.planner.proofs.tighten.pass.Statement.{statement}
 use Rattle.planner.proofs.tighten.pass.Tie as tie
