@@ -46,7 +46,7 @@ below-requires c κs = search needs
 loop-holds : tie.Need-loop-holds Inv-loop μ-loop
 loop-holds c =
     let a = c .before .args in
-    (c .before .pre .1, search needs, among-start (a .size) 65536 (a .row .now) (c .below .result) (c .below .ensures), (λ J early e k. passing-start J early (a .row .now) 65536 (λ i l. c .before .pre .5 i (omega (arith, e)))))
+    (c .before .pre .long, search needs, among-start (a .size) 65536 (a .row .now) (c .below .result) (c .below .ensures), (λ J early e k. passing-start J early (a .row .now) 65536 (λ i l. c .before .pre .low i (omega (arith, e)))))
 
 due-below-requires : tie.Need-due-below-requires Inv-loop μ-loop
 due-below-requires c κs = search needs
@@ -63,7 +63,7 @@ lower-at-requires c κs =
     let p = c .before .before .before .before .before in
     let s = p .before .before in
     let due = c .before .before .before .due-below in
-    (s .pre .3, p .loop .inv .0, (λ j t. (s .pre .4 j (below-job (p .loop .limit) (s .args .size) (p .loop .row) (due .result) (below (c .before .before .before) (s .args .size) refl) j t), due .ensures .top j t)), omega (arith, due .ensures .some (c .before .if1 .left), p .loop .inv .1))
+    (s .pre .steps, p .loop .inv .0, (λ j t. (s .pre .ranks j (below-job (p .loop .limit) (s .args .size) (p .loop .row) (due .result) (below (c .before .before .before) (s .args .size) refl) j t), due .ensures .top j t)), omega (arith, due .ensures .some (c .before .if1 .left), p .loop .inv .1))
 
 enum-known-moved : tie.Need-enum-known-moved Inv-loop μ-loop
 enum-known-moved c = search needs
@@ -71,7 +71,7 @@ enum-known-moved c = search needs
 follow-requires : tie.Need-follow-requires Inv-loop μ-loop
 follow-requires c κs =
     let s = c .before .before .before .before .before .before .before .before .before .before .before .before .before in
-    (s .pre .0, c .before .before .before .before .before .lower-at .ensures .0, s .pre .2)
+    (s .pre .few, c .before .before .before .before .before .lower-at .ensures .0, s .pre .jobs)
 
 returns-2 : tie.Need-returns-2 Inv-loop μ-loop
 returns-2 c =
@@ -129,7 +129,7 @@ loop-again-2 c =
     let p = c .before .before .before .before .before .before .before .before .before .before in
     let a = p .before .before .args in
     let due = c .before .before .before .before .before .before .before .before .due-below in
-    let j = p .before .before .pre .6 in (
+    let j = p .before .before .pre .known in (
       c .before .before .before .before .lower-at .ensures .0,
       omega (arith, due .ensures .some (c .before .before .before .before .before .before .if1 .left), p .loop .inv .1),
       subst (λ (x : List ℕ). Among (a .size) (due .result .d) x (due .result .jobs)) (sym (moves (c .before) (j .0) (j .1) (j .2) (j .3) .1 (c .if2 .left) .0))

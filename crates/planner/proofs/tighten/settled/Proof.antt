@@ -32,12 +32,13 @@ moves c J early e k =
     (c .before .before .before .pass .ensures .1 J early e k)
 
 loop-holds : tie.Need-loop-holds Inv-loop μ-loop
-loop-holds c = (c .pre .1, c .pre .5, (λ J early e k. sunk-same J early (c .args .row .now)))
+loop-holds c = (c .pre .long, c .pre .low, (λ J early e k. sunk-same J early (c .args .row .now)))
 
 pass-requires : tie.Need-pass-requires Inv-loop μ-loop
 pass-requires c κs =
     let p = c .before in
-    (p .before .pre .0, p .loop .inv .0, p .before .pre .2, p .before .pre .3, p .before .pre .4, p .loop .inv .1, p .before .pre .6)
+    let t = p .before .pre in
+    record { few = t .few; long = p .loop .inv .0; jobs = t .jobs; steps = t .steps; ranks = t .ranks; low = p .loop .inv .1; known = t .known }
 
 enum-known-moved : tie.Need-enum-known-moved Inv-loop μ-loop
 enum-known-moved c = search needs
@@ -61,7 +62,7 @@ returns c =
 loop-less : tie.Need-loop-less Inv-loop μ-loop
 loop-less c =
     let p = c .before .before .before .before .before .before in
-    let j = p .before .pre .6 in
+    let j = p .before .pre .known in
     let m = moves (c .before) (j .0) (j .1) (j .2) (j .3) in
     let f = m .2 (c .if1 .left) in
     sum-less (p .before .args .size) (row-in (c .before .before .before .before .pass .last .1 .1 .1 .1 .1 .1 .0)) (row-in (p .loop .row)) (f .0) (omega (arith, f .1, j .2)) (λ i l. m .0 .bound .beneath i (omega (arith, j .2))) (f .2)
@@ -70,7 +71,7 @@ loop-again : tie.Need-loop-again Inv-loop μ-loop
 loop-again c =
     let p = c .before .before .before .before .before .before in
     let a = p .before .args in
-    let j = p .before .pre .6 in (
+    let j = p .before .pre .known in (
       c .before .before .before .before .pass .ensures .0,
       (λ i l. omega (arith, p .loop .inv .1 i l, moves (c .before) (j .0) (j .1) (j .2) (j .3) .0 .bound .beneath i (omega (arith, j .2)))),
       (λ J early e k. sunk-join J early (a .row .now) (p .loop .row) (c .before .before .before .before .pass .last .1 .1 .1 .1 .1 .1 .0) (p .loop .inv .2 J early e k) (moves (c .before) J early e k .0)),

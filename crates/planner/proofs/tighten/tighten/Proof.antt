@@ -49,15 +49,16 @@ follow-requires c κs = (c .before .before .before .before .before .before .befo
 settled-requires : tie.Need-settled-requires
 settled-requires c κs =
     let f = c .before .before .before .before .before .before .before in
-    let p = f .before .before .before .before .before .before .before .before .before .before .before .before .before .before .before .pre .1 in (
-      p .few,
-      f .follow .ensures .0,
-      f .before .before .before .before .before .before .before .before .before .before .before .before .earliest .ensures .jobs,
-      known f .levels .steps,
-      (λ i l. known f .ranks i l .0),
-      (λ i l. omega (arith, p .late i l, fits f .sunk (c .before .before .before .before .before .before .if1 .taken) .bound .beneath i l)),
-      (jobs f, early f, refl, known f),
-    )
+    let p = f .before .before .before .before .before .before .before .before .before .before .before .before .before .before .before .pre .1 in
+    record {
+      few = p .few;
+      long = f .follow .ensures .0;
+      jobs = f .before .before .before .before .before .before .before .before .before .before .before .before .earliest .ensures .jobs;
+      steps = known f .levels .steps;
+      ranks = λ i l. known f .ranks i l .0;
+      low = λ i l. omega (arith, p .late i l, fits f .sunk (c .before .before .before .before .before .before .if1 .taken) .bound .beneath i l);
+      known = (jobs f, early f, refl, known f);
+    }
 
 returns : tie.Need-returns
 returns c =
