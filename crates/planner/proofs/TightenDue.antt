@@ -26,7 +26,7 @@ pub record Gathered (limit among : ℕ) (row : List ℕ) (d jobs rest : ℕ) : T
 pub gathered-none : (limit among : ℕ) (row : List ℕ) → Gathered limit among row 0 0 among
 gathered-none limit among row = record { within = λ j t. t; into = λ j t. absurd (has-some 0 j t refl); met = λ j t. inl t; low = inl (refl, refl) }
 
-module _ (limit among : ℕ) (row : List ℕ) (d jobs rest : ℕ) (g : Gathered limit among row d jobs rest) where
+module _ {limit among : ℕ} {row : List ℕ} {d jobs rest : ℕ} (g : Gathered limit among row d jobs rest) where
   module _ (k left : ℕ) (w : (j : ℕ) → has left j ≡ (has rest j && not (eqb j k))) (t : T (has rest k)) where
     pub gathered-more : (d′ more : ℕ) → getD row k 0 < limit → ((j : ℕ) → has more j ≡ (has jobs j || eqb j k)) →
         d ≤ d′ → getD row k 0 ≤ d′ → d′ < limit → Gathered limit among row d′ more left

@@ -33,7 +33,7 @@ pub same-leb : (a b x : ℕ) → (a ≤ x → b ≤ x) → (b ≤ x → a ≤ x)
 same-leb a b x f g = ⊎-elim (λ h. le-leb a x h ∙ sym (le-leb b x (f h)))
     (λ h. lt-leb a x h ∙ sym (⊎-elim (λ y. absurd (omega (arith, g y))) (λ y. lt-leb b x y) (le-or-lt b x))) (le-or-lt a x)
 
-module _ (J : Jobs) (early row : ℕ → ℕ) (i held d due followers from : ℕ) (times late : List ℕ) (a : At J early row i held d due followers from times late) where
+module _ {J : Jobs} {early row : ℕ → ℕ} {i held d due followers from : ℕ} {times late : List ℕ} (a : At J early row i held d due followers from times late) where
   abbrev at : ℕ → ℕ
   at k = getD times k 0
 
@@ -82,7 +82,7 @@ module _ (J : Jobs) (early row : ℕ → ℕ) (i held d due followers from : ℕ
       bound = omega (arith, N-bound J early row i (at from) d, a .levels .few);
     }
 
-    module _ (k most : ℕ) (p : Passed k most) where
+    module _ {k most : ℕ} (p : Passed k most) where
       module _ (h : at k < held) where
         count-here : count 64 (pressed due followers (getD late k 0) i) ≡ Ns (at k)
         count-here = press-N k (at k) (p .entry) (λ j l. refl)

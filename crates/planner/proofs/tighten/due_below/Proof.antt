@@ -45,19 +45,18 @@ loop-less c =
 loop-again : tie.Need-loop-again Inv-loop μ-loop
 loop-again c =
     let p = c .before .before .before .before .before .before in
-    let a = p .before .args in
     let f = c .before .before .before .before .first in
     let r = rest-walk (p .loop .rest) (c .rest .result) (f .result .0) (f .ensures .3) (c .rest .ensures) in
     let t = c .before .before .wide .ensures .0 in
     ⊎-elim
-    (λ w. rw (w .3, w .4) (gathered-more (a .limit) (a .among) (a .row .now) (p .loop .d) (p .loop .jobs) (p .loop .rest) (p .loop .inv) (f .result .0) (c .rest .result) r (f .ensures .1) _ (w .1 .result) (omega (arith, t, w .0 .taken)) (w .1 .ensures) (omega (arith, w .2 .taken)) (omega (arith, t)) (w .0 .taken)))
+    (λ w. rw (w .3, w .4) (gathered-more (p .loop .inv) _ _ r (f .ensures .1) _ _ (omega (arith, t, w .0 .taken)) (w .1 .ensures) (omega (arith, w .2 .taken)) (omega (arith, t)) (w .0 .taken)))
     (⊎-elim
-    (λ w. rw (w .3, w .4) (gathered-more (a .limit) (a .among) (a .row .now) (p .loop .d) (p .loop .jobs) (p .loop .rest) (p .loop .inv) (f .result .0) (c .rest .result) r (f .ensures .1) _ (w .1 .result) (omega (arith, t, w .0 .taken)) (w .1 .ensures) (omega arith) (omega (arith, t, w .2 .left)) (gathered-low (a .limit) (a .among) (a .row .now) (p .loop .d) (p .loop .jobs) (p .loop .rest) (p .loop .inv) (f .result .0) (omega (arith, t, w .0 .taken)))))
-    (λ w. rw (w .1, w .2) (gathered-same (a .limit) (a .among) (a .row .now) (p .loop .d) (p .loop .jobs) (p .loop .rest) (p .loop .inv) (f .result .0) (c .rest .result) r (f .ensures .1) (omega (arith, t, w .0 .left)))))
+    (λ w. rw (w .3, w .4) (gathered-more (p .loop .inv) _ _ r (f .ensures .1) _ _ (omega (arith, t, w .0 .taken)) (w .1 .ensures) (omega arith) (omega (arith, t, w .2 .left)) (gathered-low (p .loop .inv) (f .result .0) (omega (arith, t, w .0 .taken)))))
+    (λ w. rw (w .1, w .2) (gathered-same (p .loop .inv) _ _ r (f .ensures .1) (omega (arith, t, w .0 .left)))))
     (c .before .if1 .came)
 
 returns : tie.Need-returns Inv-loop μ-loop
-returns c = gathered-due _ _ _ _ _ _ (c .before .loop .inv) (c .loop-test .left)
+returns c = gathered-due (c .before .loop .inv) (c .loop-test .left)
 
 pub due-below-spec : {M : Type 1} → statement M
 due-below-spec =

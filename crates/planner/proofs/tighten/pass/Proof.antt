@@ -26,19 +26,23 @@ abbrev μ-loop : tie.MeasureT-loop
 μ-loop size order followers times late rank row₀ all₀ limit₀ among₀ row all limit among = limit
 
 -- the jobs below the limit, of all jobs
-below : (c : tie.After-due-below Inv-loop μ-loop) (n : ℕ) → n ≡ c .before .before .before .before .args .size → DueBelow (c .before .before .loop .limit) n (c .before .before .loop .row) (c .due-below .result)
-below c n e =
+below : (c : tie.After-due-below Inv-loop μ-loop) (n : ℕ) →
     let p = c .before .before in
-    rw e (due-all (p .loop .limit) (p .before .before .args .size) (p .loop .row) (p .loop .among) (c .due-below .result) (p .loop .inv .2) (c .due-below .ensures))
+    n ≡ p .before .before .args .size → DueBelow (p .loop .limit) n (p .loop .row) (c .due-below .result)
+below c n e = rw e (due-all _ _ _ _ _ (c .before .before .loop .inv .2) (c .due-below .ensures))
 
 -- what moved at this d
-moves : (c : tie.After-known-told Inv-loop μ-loop) (J : Jobs) (early : ℕ → ℕ) → J .size ≡ c .before .before .before .before .before .before .before .before .before .before .before .args .size → Known J early (c .before .before .before .before .before .before .before .before .before .before .before .args .followers .now) (c .before .before .before .before .before .before .before .before .before .before .before .args .times .now) (c .before .before .before .before .before .before .before .before .before .before .before .args .late .now) (c .before .before .before .before .before .before .before .before .before .before .before .args .rank .now) →
-    Moves J early (c .before .before .before .before .before .before .before .before .before .loop .row) (c .before .before .before .lower-at .last .1 .1 .1 .1 .1 .1 .0) (AtD J early (row-in (c .before .before .before .before .before .before .before .before .before .loop .row)) (c .before .before .before .before .before .before .before .due-below .result .d)) (Those (c .before .moved .given .0 .0))
+moves : (c : tie.After-known-told Inv-loop μ-loop) (J : Jobs) (early : ℕ → ℕ) →
+    let d = c .before .before .before .before .before .before .before .due-below .result .d in
+    let p = c .before .before .before .before .before .before .before .before .before in
+    let a = p .before .before .args in
+    J .size ≡ a .size → Known J early (a .followers .now) (a .times .now) (a .late .now) (a .rank .now) →
+    Moves J early (p .loop .row) (c .before .before .before .lower-at .last .1 .1 .1 .1 .1 .1 .0) (AtD J early (row-in (p .loop .row)) d) (Those (c .before .moved .given .0 .0))
 moves c J early e k =
     let p = c .before .before .before .before .before .before .before .before .before in
     let due = c .before .before .before .before .before .before .before .due-below in
     subst (λ (r : Moved). Moves J early (p .loop .row) (c .before .before .before .lower-at .last .1 .1 .1 .1 .1 .1 .0) (AtD J early (row-in (p .loop .row)) (due .result .d)) r) (c .before .moved .given .1)
-    (c .before .before .before .lower-at .ensures .1 J early k (due-by (p .loop .limit) (J .size) (p .loop .row) (due .result) (below (c .before .before .before .before .before .before .before) (J .size) e) (c .before .before .before .before .before .if1 .left)))
+    (c .before .before .before .lower-at .ensures .1 J early k (due-by _ _ _ _ (below (c .before .before .before .before .before .before .before) (J .size) e) (c .before .before .before .before .before .if1 .left)))
 
 below-requires : tie.Need-below-requires Inv-loop μ-loop
 below-requires c κs = search needs
