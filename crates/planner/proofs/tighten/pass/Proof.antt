@@ -58,16 +58,14 @@ due-below-requires c κs = search needs
 returns : tie.Need-returns Inv-loop μ-loop
 returns c =
     let p = c .before .before .before .before in
-    let a = p .before .before .args in
-    let due = c .before .before .due-below in
-    (p .loop .inv .0, (λ J early e k. passing-moves J early (a .row .now) (p .loop .row) (p .loop .all) (p .loop .limit) (p .loop .inv .3 J early e k) (due .result) (below (c .before .before) (J .size) e) (c .if1 .taken)))
+    (p .loop .inv .0, (λ J early e k. passing-moves (p .loop .inv .3 J early e k) (below (c .before .before) (J .size) e) (c .if1 .taken)))
 
 lower-at-requires : tie.Need-lower-at-requires Inv-loop μ-loop
 lower-at-requires c κs =
     let p = c .before .before .before .before .before in
     let s = p .before .before in
     let due = c .before .before .before .due-below in
-    (s .pre .steps, p .loop .inv .0, (λ j t. (s .pre .ranks j (below-job (p .loop .limit) (s .args .size) (p .loop .row) (due .result) (below (c .before .before .before) (s .args .size) refl) j t), due .ensures .top j t)), omega (arith, due .ensures .some (c .before .if1 .left), p .loop .inv .1))
+    (s .pre .steps, p .loop .inv .0, (λ j t. (s .pre .ranks j (below-job _ _ _ _ (below (c .before .before .before) (s .args .size) refl) j t), due .ensures .top j t)), omega (arith, due .ensures .some (c .before .if1 .left), p .loop .inv .1))
 
 enum-known-moved : tie.Need-enum-known-moved Inv-loop μ-loop
 enum-known-moved c = search needs
@@ -80,11 +78,10 @@ follow-requires c κs =
 returns-2 : tie.Need-returns-2 Inv-loop μ-loop
 returns-2 c =
     let p = c .before .before .before .before .before .before .before .before .before .before .before .before .before in
-    let a = p .before .before .args in
     let o = c .before .before .before .before in (
       c .before .follow .ensures .0,
-      (λ J early e k. none-join J early (a .row .now) (p .loop .row) (p .loop .row) (p .loop .inv .3 J early e k .sunk)
-          (none-join J early (p .loop .row) _ (p .loop .row) (moves o J early e k .0) (c .before .follow .ensures .1 J early e (k .follow) (k .earliest .raised) .none (not-true _ (c .if3 .taken))))),
+      (λ J early e k. none-join (p .loop .inv .3 J early e k .sunk)
+          (none-join (moves o J early e k .0) (c .before .follow .ensures .1 J early e (k .follow) (k .earliest .raised) .none (not-true _ (c .if3 .taken))))),
     )
 
 below-requires-2 : tie.Need-below-requires-2 Inv-loop μ-loop
@@ -96,14 +93,13 @@ enum-told c = search needs
 returns-3 : tie.Need-returns-3 Inv-loop μ-loop
 returns-3 c =
     let p = c .before .before .before .before .before .before .before .before in
-    let a = p .before .before .args in
     let o = c .before .before in
     let low = o .lower-at .last .1 .1 .1 .1 .1 .1 .0 in
     let due = c .before .before .before .before .before .before .due-below in (
       o .lower-at .ensures .0,
-      (λ J early e k. none-join J early (a .row .now) (p .loop .row) (p .loop .row) (p .loop .inv .3 J early e k .sunk)
+      (λ J early e k. none-join (p .loop .inv .3 J early e k .sunk)
           (subst (λ (r : Moved). Moves J early (p .loop .row) low (AtD J early (row-in (p .loop .row)) (due .result .d)) r) (c .enum-told .given .1)
-          (o .lower-at .ensures .1 J early k (due-by (p .loop .limit) (J .size) (p .loop .row) (due .result) (below (c .before .before .before .before .before .before) (J .size) e) (c .before .before .before .before .if1 .left))))),
+          (o .lower-at .ensures .1 J early k (due-by _ _ _ _ (below (c .before .before .before .before .before .before) (J .size) e) (c .before .before .before .before .if1 .left))))),
     )
 
 loop-less : tie.Need-loop-less Inv-loop μ-loop
@@ -121,7 +117,8 @@ loop-again c =
       among-start (a .size) (due .result .d) _ (c .below2 .result) (c .below2 .ensures),
       (λ J early e k.
           let m = moves o J early e k in
-          passing-moved J early (a .row .now) (p .loop .row) (p .loop .all) (p .loop .limit) (p .loop .inv .3 J early e k) (due .result) (below (c .before .before .before .before .before .before .before .before .before .before .before .before) (J .size) e) _ _ _ (or-some (p .loop .all) (o .before .moved .given .0 .0) (c .before .before .before .before .if2 .taken))
+          passing-moved (p .loop .inv .3 J early e k) (below (c .before .before .before .before .before .before .before .before .before .before .before .before) (J .size) e)
+          (or-some (p .loop .all) (o .before .moved .given .0 .0) (c .before .before .before .before .if2 .taken))
           (m .0) (m .2 (c .before .before .before .before .if2 .taken)) (follow .ensures .1 J early e (k .follow) (k .earliest .raised) .sunk (not-false _ (c .before .if3 .left)))),
     )
 
@@ -137,10 +134,10 @@ loop-again-2 c =
       c .before .before .before .before .lower-at .ensures .0,
       omega (arith, due .ensures .some (c .before .before .before .before .before .before .if1 .left), p .loop .inv .1),
       subst (λ (x : List ℕ). Among (a .size) (due .result .d) x (due .result .jobs)) (sym (moves (c .before) (j .0) (j .1) (j .2) (j .3) .1 (c .if2 .left) .0))
-          (among-next (p .loop .limit) (a .size) (p .loop .row) (due .result) (below (c .before .before .before .before .before .before .before .before) (a .size) refl) (c .before .before .before .before .before .before .if1 .left)),
+          (among-next _ _ _ _ (below (c .before .before .before .before .before .before .before .before) (a .size) refl) (c .before .before .before .before .before .before .if1 .left)),
       (λ J early e k.
           let m = moves (c .before) J early e k .1 (c .if2 .left) in
-          passing-still J early (a .row .now) (p .loop .row) (p .loop .all) (p .loop .limit) (p .loop .inv .3 J early e k) (due .result) (below (c .before .before .before .before .before .before .before .before) (J .size) e) _ (m .0) (m .1)),
+          passing-still (p .loop .inv .3 J early e k) (below (c .before .before .before .before .before .before .before .before) (J .size) e) (m .0) (m .1)),
     )
 
 pub pass-spec : {M : Type 1} → statement M
