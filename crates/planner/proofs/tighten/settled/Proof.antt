@@ -19,7 +19,10 @@ use Rattle.planner.proofs.tighten.settled.Statement.{statement}
 use Rattle.planner.proofs.tighten.settled.Tie as tie
 
 abbrev Inv-loop : tie.InvT-loop
-Inv-loop size order followers times late rank row₀ row = (length row ≡ 64) × ((i : ℕ) → i < size → getD row i 0 < 65536) × ((J : Jobs) (early : ℕ → ℕ) → J .size ≡ size → Known J early followers times late rank → Sunk J early row₀ row)
+Inv-loop size order followers times late rank row₀ row =
+    (length row ≡ 64)
+    × ((i : ℕ) → i < size → getD row i 0 < 65536)
+    × ((J : Jobs) (early : ℕ → ℕ) → J .size ≡ size → Known J early followers times late rank → Sunk J early row₀ row)
 
 abbrev μ-loop : tie.MeasureT-loop
 μ-loop size order followers times late rank row₀ row = sum size (row-in row)
@@ -67,7 +70,7 @@ loop-less c =
     let j = p .before .pre .known in
     let m = moves (c .before) (j .0) (j .1) (j .2) (j .3) in
     let f = m .2 (c .if1 .left) in
-    sum-less (p .before .args .size) (row-in (c .before .before .before .before .pass .last .1 .1 .1 .1 .1 .1 .0)) (row-in (p .loop .row)) (f .0) (omega (arith, f .1, j .2)) (λ i l. m .0 .bound .beneath i (omega (arith, j .2))) (f .2)
+    sum-less _ _ _ (f .0) (omega (arith, f .1, j .2)) (λ i l. m .0 .bound .beneath i (omega (arith, j .2))) (f .2)
 
 loop-again : tie.Need-loop-again Inv-loop μ-loop
 loop-again c =

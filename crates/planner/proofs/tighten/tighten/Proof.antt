@@ -45,7 +45,9 @@ followers-requires : tie.Need-followers-requires
 followers-requires c κs = let p = c .before .before .before .before .pre in (p .0, p .1 .few, refl, (λ i l. getD-replicate 64 i 0 0 l))
 
 levels-requires : tie.Need-levels-requires
-levels-requires c κs = (c .before .before .before .before .before .before .before .before .before .pre .1 .few, c .before .before .before .before .before .before .earliest .ensures .low, (refl, refl, refl), (λ k l. (getD-replicate 65 k 65535 0 l, getD-replicate 65 k 0 0 l)))
+levels-requires c κs =
+    let e = c .before .before .before .before .before .before in
+    (e .before .before .before .pre .1 .few, e .earliest .ensures .low, (refl, refl, refl), (λ k l. (getD-replicate 65 k 65535 0 l, getD-replicate 65 k 0 0 l)))
 
 below-requires : tie.Need-below-requires
 below-requires c κs = search needs

@@ -37,7 +37,9 @@ joined-requires : tie.Need-joined-requires Inv-loop μ-loop
 joined-requires c κs = search needs
 
 -- the row read is the joined row's
-read : (c : tie.After-joined Inv-loop μ-loop) → c .joined .result ≡ getD (joined-rows (c .before .before .before .before .args .before .now) (c .before .before .before .before .args .second .0) (c .before .before .before .before .args .more)) (c .before .before .first .result .0) 0
+read : (c : tie.After-joined Inv-loop μ-loop) →
+    let a = c .before .before .before .before .args in
+    c .joined .result ≡ getD (joined-rows (a .before .now) (a .second .0) (a .more)) (c .before .before .first .result .0) 0
 read c = c .joined .ensures ∙ sym (rows-at _ _ _ _ (c .before .before .first .ensures .0))
 
 returns : tie.Need-returns Inv-loop μ-loop

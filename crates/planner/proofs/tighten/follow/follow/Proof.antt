@@ -88,8 +88,7 @@ element-write-row c = omega (arith, in-row (c .before .before .before .before .b
 
 returns : tie.Need-returns Inv-loop μ-loop
 returns c =
-    let p = c .before .before .before .before .before .before .before in
-    let a = p .before .args in (
+    let p = c .before .before .before .before .before .before .before in (
       simp length-set (p .loop .inv .1),
       (λ J early e f r.
           let x = eased (c .before) J early e f r in
