@@ -1,19 +1,19 @@
--- Demand 2: a plan handed out is valid, in time, and finishes when told; "no plan" only where there is none; a book written and read is the same book.
+-- Demand 2: a plan handed out is valid, in time, finishes when told, and shows nothing else; "no plan" only where there is none; a book written and read is the same book.
 -- Assumes nothing.
 use mathlib.Core.Bool.{_||_}
-use mathlib.Core.List.{List}
+use mathlib.Core.List.{List, _++_}
+use mathlib.Core.Logic.{inl, inr, ⊎-elim}
 use mathlib.Core.Path.{_≡_, refl, sym, ap, subst, _∙_}
-use Prim.Native.Nat.{ℕ, _+_, _*_, _<_}
+use Prim.Native.Nat.{ℕ, _*_, _<_}
 use native.Mathlib.Omega.{arith}
-use borrow.Author.Tests.{lt-ltb}
 use lib.Dec.{ltb}
-use lib.ListN.{length, getD, drop, List·getD-append}
+use lib.ListN.{length, getD, drop}
+use lib.Seq.{drop-append-seam}
 use Rattle.schedule.specs.Listed.{Listed, written}
-use Rattle.schedule.specs.Make.{byte}
 use Rattle.schedule.proofs.Tests.{cond-case}
 use Rattle.schedule.proofs.Timed.{no-plan-no-timed}
-use Rattle.schedule.proofs.Clock.{clocked-iff-plan}
-use Rattle.schedule.proofs.Loop.{bytes-length, bytes-at}
+use Rattle.schedule.proofs.Clock.{plan-clock, plan-clock-meets, clocked-iff-plan}
+use Rattle.schedule.proofs.Loop.{bytes-length}
 use Rattle.planner.specs.declared.book.Book.{Book}
 use Rattle.planner.specs.declared.book.Request.{Request}
 use Rattle.planner.specs.declared.book.Request.the-variants.{Job, Before, Earlier}
@@ -24,43 +24,35 @@ use Rattle.planner.specs.Told.{jobs-of, latest-of, Told}
 use Rattle.planner.specs.Unless.{Unless, refused, passed}
 use Rattle.planner.specs.Outcome.{Planned, refusal, Judged, Outcome, grow}
 use Rattle.planner.specs.Judged.{list-of, turned-down, Judgement, Fitted, Judged-as}
-use Rattle.planner.specs.Planned.{plan-of, finish-of, bytes-of, Plans}
+use Rattle.planner.specs.Planned.{plan-of, finish-of, bytes-of, Plans, core-of}
 use Rattle.planner.proofs.Judged.{unless-past, unless-at-past}
-use Rattle.planner.proofs.Handed.{book-plan, plan-is-valid}
+use Rattle.planner.proofs.Handed.{plan-shown}
 use Rattle.jobfile.proofs.RoundTrip.{round-trip}
 use Rattle.demands.specs.Demands.{Shown, Hopeless, Demand2}
 use Rattle.demands.proofs.First.{not-both, same-number}
 
 -- ---- a plan handed out
 module _ (L : Listed) (k : Book) (t : Told k L) where
-  -- each job's byte stands in the plan, and a job is its own byte
-  seated : (i : ℕ) → i < k .size → (c : ℕ) × (c < 2) × (getD (bytes-of k) (2 * plan-of k i + c) 255 ≡ i) × (2 * plan-of k i + c < length (bytes-of k))
-  unfolding byte
-  seated i l =
-      let p = book-plan k (L, t) in
-      let s = p .placed i l .1 in
-      let u : plan-of k i < finish-of k = omega (arith, p .within i l) in (
-        s .0,
-        s .1,
-        bytes-at (jobs-of k) (latest-of k) 4096 (finish-of k) (plan-of k i) (s .0) 255 u (s .1) ∙ ap (byte (jobs-of k)) (s .2) ∙ simp (lt-ltb i (k .size) l),
-        omega (arith, bytes-length (jobs-of k) (latest-of k) 4096 (finish-of k), s .1),
-      )
+  beyond : (old new : List ℕ) (told : ℕ) → told ≡ finish-of k → Plans k old new (Accepted told) → drop (2 * told) new ≡ drop (2 * told) old
+  beyond old new told ends (refused f e) = absurd (not-both (Accepted told) told 8 _ refl (ap (λ (x : Answer × List ℕ). x .0) e))
+  beyond old new told ends (passed f e) = rw (ends, ap (λ (x : Answer × List ℕ). x .1) e)
+      (subst (λ n. drop n (bytes-of k ++ drop (2 * finish-of k) old) ≡ drop (2 * finish-of k) old) (bytes-length (jobs-of k) (latest-of k) 4096 (finish-of k))
+      (drop-append-seam (bytes-of k) (drop (2 * finish-of k) old)))
 
-  handed : (old new : List ℕ) (told : ℕ) → Plans k old new (Accepted told) → Shown L k new told
-  handed old new told (refused f e) = absurd (not-both (Accepted told) told 8 _ refl (ap (λ (x : Answer × List ℕ). x .0) e))
-  handed old new told (passed f e) = record {
-    slot = plan-of k;
-    valid = plan-is-valid k (L, t) .0;
-    meets = plan-is-valid k (L, t) .2;
-    finishes = let a : Accepted told ≡ Accepted (finish-of k) = ap (λ (x : Answer × List ℕ). x .0) e in cc;
-    seats = λ i l.
-        let s = seated i l in (
-          s .0,
-          s .1,
-          subst (λ (b : List ℕ). getD b (2 * plan-of k i + s .0) 255 ≡ i) (sym (ap (λ (x : Answer × List ℕ). x .1) e))
-              (List·getD-append (bytes-of k) (drop (2 * finish-of k) old) 255 (2 * plan-of k i + s .0) (s .3) ∙ s .2),
-        );
-  }
+  handed : (old new : List ℕ) (told : ℕ) → Plans k old new (Accepted told) → Shown L k old new told
+  handed old new told p =
+      let s = plan-shown k (L, t) old new told p in
+      record {
+        slot = plan-of k;
+        core = core-of k;
+        valid = s .valid;
+        meets = s .deadlines;
+        clocks = λ C. (plan-clock C 2 (jobs-of k) (plan-of k) (s .valid), plan-clock-meets C 2 (jobs-of k) (plan-of k) (written L) (s .deadlines));
+        finishes = s .answer;
+        seats = s .each;
+        others = λ u c hu hc. ⊎-elim inl (λ x. inr (x .0, x .1, x .3, x .4)) (s .others u c hu hc);
+        rest = beyond old new told (s .answer) p;
+      }
 
 -- ---- no plan
 hopeless : (L : Listed) → (Planned L → ⊥) → Hopeless L

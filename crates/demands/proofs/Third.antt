@@ -1,26 +1,36 @@
 -- Demand 3: a run leaves the book that the definition gives for the remaining list handed in at once, and 4 is told exactly where that list has no plan.
+-- Beside it, the rule that a request that says nothing new changes nothing.
 -- Assumes nothing.
 use mathlib.Core.List.{List, [], _∷_, _++_}
 use mathlib.Core.Logic.{⊎-elim}
 use mathlib.Core.Path.{_≡_, refl, sym, ap, ap₂, _∙_}
 use Prim.Native.Nat.{ℕ, zero, suc, _+_, _*_, _/_, _≤_, _<_}
 use native.Mathlib.Omega.{arith}
-use lib.ListN.{length, getD, take}
+use lib.ListN.{length, getD, take, drop}
 use lib.Seq.{take-suc, take-length}
+use Rattle.schedule.specs.Jobs.{Jobs}
+use Rattle.schedule.specs.Plan.{finish}
+use Rattle.schedule.specs.Times.{Beneath}
+use Rattle.schedule.specs.Make.{slots, bytes}
 use Rattle.schedule.specs.Listed.{Listed}
+use Rattle.schedule.specs.Book.{Holds}
+use Rattle.schedule.proofs.Same.{finish-one, bytes-one}
 use Rattle.planner.specs.declared.book.Book.{Book}
 use Rattle.planner.specs.declared.book.Request.{Request}
 use Rattle.planner.specs.declared.book.Request.the-variants.{Job, Before, Earlier}
 use Rattle.planner.specs.declared.book.Applied.{Applied}
 use Rattle.planner.specs.declared.refusal.Answer.{Answer}
 use Rattle.planner.specs.declared.refusal.Answer.the-variants.{Accepted, Refused}
-use Rattle.planner.specs.Told.{latest-of}
+use Rattle.planner.specs.Told.{jobs-of, latest-of, Told}
 use Rattle.planner.specs.Unless.{refused, passed}
 use Rattle.planner.specs.Outcome.{Planned, Judged, Outcome, grow, Run}
 use Rattle.planner.specs.Judged.{first-of, second-of, pairs-of, list-of, Misshapen, Judges}
+use Rattle.planner.specs.Planned.{finish-of, bytes-of, Plans}
 use Rattle.planner.proofs.Once.{run-told, run-one}
 use Rattle.planner.proofs.Judged.{unless-free, list-is-requests}
-use Rattle.demands.specs.Demands.{Sound, Demand3}
+use Rattle.planner.proofs.Unchanged.{order-unchanged, deadline-unchanged}
+use Rattle.demands.specs.Demands.{Sound, Demand3, Unchanged}
+use Rattle.demands.proofs.First.{not-both}
 use Rattle.demands.proofs.Second.{refused-hopeless}
 
 -- ---- handed in at once
@@ -61,6 +71,22 @@ in-rows L =
     ap (pairs-of (flat (L .orders))) half ∙ flat-pairs (L .orders) (length (L .orders)) (omega arith) ∙ take-length (L .orders) in
     λ i. record { starts = L .starts; deadlines = L .deadlines; orders = e i }
 
+-- ---- the plan
+-- no latest time held is above 4096, so as many slots are enough
+module _ (L : Listed) (k : Book) (t : Told k L) (J : Jobs) (times : ℕ → ℕ) (h : Holds 2 L J times) where
+  low : Beneath (jobs-of k) (latest-of k) (λ i. 4096)
+  low i l = omega (arith, t .holds .latest .beneath i l, t .limited .deadline i (omega (arith, t .holds .reads .size)))
+
+  defined : (old new : List ℕ) (told : ℕ) → Plans k old new (Accepted told) → (told ≡ finish J (slots 2 J times 4096 4096)) × (new ≡ bytes J times 4096 told ++ drop (2 * told) old)
+  defined old new told (refused f e) = absurd (not-both (Accepted told) told 8 _ refl (ap (λ (x : Answer × List ℕ). x .0) e))
+  defined old new told (passed f e) =
+      let ends : told ≡ finish-of k = let a : Accepted told ≡ Accepted (finish-of k) = ap (λ (x : Answer × List ℕ). x .0) e in cc in
+      let same : told ≡ finish J (slots 2 J times 4096 4096) =
+      ends ∙ finish-one L (jobs-of k) J (latest-of k) times (t .holds) h 4096 4096 4096 4096 low (omega arith) (omega arith) (omega arith) in
+      let shown : bytes-of k ≡ bytes J times 4096 told =
+      bytes-one L (jobs-of k) J (latest-of k) times (t .holds) h 4096 4096 4096 4096 low (omega arith) (omega arith) (omega arith) ∙ ap (bytes J times 4096) (sym same) in
+      (same, ap (λ (x : Answer × List ℕ). x .1) e ∙ ap₂ (λ (front : List ℕ) (n : ℕ). front ++ drop (2 * n) old) shown (sym ends))
+
 -- ---- a sound request is refused only for want of a plan
 judged-refused : (L : Listed) (value : ℕ) (k : Book) (r : Applied) → (Planned L → ⊥) → Judged L value k r → r .answer ≡ Refused 4 0
 judged-refused L value k r none (refused x e) = ap (λ (y : Applied). y .answer) e
@@ -80,8 +106,16 @@ demand-3 = record {
   held = run-told;
   at-once = at-once;
   in-rows = λ L k run. (flat (L .orders), in-rows L, flat-length (L .orders));
+  plan = λ L k J times old new told run h. defined L k (run-told L k run) J times h old new told;
   one-book = run-one;
   refused = λ L k q r run x sound.
       let o = x .outcome L (run-told L k run) in
       ((λ a. refused-hopeless L k q r 0 a o), (λ none. hopeless-refused L k q r sound none o));
+}
+
+-- ---- a request that says nothing new
+pub unchanged : Unchanged
+unchanged = record {
+  order = λ L k a b r t. order-unchanged L k t r a b;
+  deadline = λ k j d r m l h high. deadline-unchanged (m .0) k (m .1) r j d l high h;
 }

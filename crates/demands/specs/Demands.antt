@@ -1,16 +1,19 @@
--- The customer's three demands, of what the public calls promise: apply (`Applies`), judge (`Judges`), plan (`Plans`), place (`Places`),
--- read (`ReadsRecord`), read_file (`ReadsFile`) and write (`WritesBook`). That a call ends is what a proved function means.
+-- The customer's three demands, of what the public calls promise: apply and amend (`Applies`), judge (`Judges`), plan (`Plans`), place (`Places`),
+-- read and read_into (`ReadsRecord`), read_file (`ReadsFile`) and write (`WritesBook`). That a call ends is what a proved function means.
 -- Assumes nothing.
-use mathlib.Core.List.{List}
+use mathlib.Core.List.{List, _++_}
 use mathlib.Core.Logic.{_↔_, _⊎_}
 use mathlib.Core.Path.{_≡_}
 use Prim.Native.Nat.{ℕ, _+_, _*_, _/_, _≤_, _<_}
-use lib.ListN.{length, getD}
+use lib.ListN.{length, getD, drop}
 use Rattle.schedule.specs.Jobs.{Jobs}
 use Rattle.schedule.specs.Plan.{Valid, Meets, HasPlan, finish}
 use Rattle.schedule.specs.Timed.{HasTimed}
-use Rattle.schedule.specs.Clock.{Clock, HasClocked}
+use Rattle.schedule.specs.Clock.{Clock, Clocked, ClockedMeets, HasClocked}
+use Rattle.schedule.specs.Make.{slots, bytes}
 use Rattle.schedule.specs.Listed.{Listed, Chain, Reads, written}
+use Rattle.schedule.specs.Book.{Holds}
+use Rattle.schedule.specs.declared.JobIndex.{JobIndex}
 use Rattle.planner.specs.declared.book.Book.{Book}
 use Rattle.planner.specs.declared.book.Request.{Request}
 use Rattle.planner.specs.declared.book.Request.the-variants.{Job, Before, Earlier}
@@ -53,12 +56,18 @@ pub record Demand1 : Type 0 where
 
 -- ---- 2. "A plan it hands out is a valid two-processor schedule .. and the finishing time told is that plan's."
 -- the bytes show a valid plan of the list, in time, that finishes when told
-pub record Shown (L : Listed) (k : Book) (bytes : List ℕ) (told : ℕ) : Type 0 where
+pub record Shown (L : Listed) (k : Book) (old new : List ℕ) (told : ℕ) : Type 1 where
   pub slot : ℕ → ℕ
+  pub core : ℕ → ℕ
   pub valid : Valid 2 (jobs-of k) slot
   pub meets : Meets (jobs-of k) (written L) slot
+  -- "as Garey and Johnson define it": by any clock, each job begins where its slot does
+  pub clocks : (C : Clock) → Clocked C 2 (jobs-of k) (λ i. C .begin (slot i)) × ClockedMeets C (jobs-of k) (written L) (λ i. C .begin (slot i))
   pub finishes : told ≡ finish (jobs-of k) slot
-  pub seats : (i : ℕ) → i < k .size → (c : ℕ) × (c < 2) × (getD bytes (2 * slot i + c) 255 ≡ i)
+  -- each job stands in its slot on its core; a core that none has in a slot is idle; bytes beyond the plan stay
+  pub seats : (i : ℕ) → i < k .size → (core i < 2) × (getD new (2 * slot i + core i) 255 ≡ i)
+  pub others : (u c : ℕ) → u < told → c < 2 → (getD new (2 * u + c) 0 ≡ 255) ⊎ ((i : ℕ) × (i < k .size) × (slot i ≡ u) × (core i ≡ c))
+  pub rest : drop (2 * told) new ≡ drop (2 * told) old
 
 -- "It says no plan only if no such schedule exists at all": in whole slots, in units of 1/u of a slot, or by any clock
 pub record Hopeless (L : Listed) : Type 1 where
@@ -68,7 +77,7 @@ pub record Hopeless (L : Listed) : Type 1 where
 
 -- "A book written to a file and read into an empty book is the same book" is `ReadsBack`
 pub record Demand2 : Type 1 where
-  pub plan : (L : Listed) (k : Book) (old new : List ℕ) (told : ℕ) → Told k L → Plans k old new (Accepted told) → Shown L k new told
+  pub plan : (L : Listed) (k : Book) (old new : List ℕ) (told : ℕ) → Told k L → Plans k old new (Accepted told) → Shown L k old new told
   pub none : (L : Listed) (k : Book) (q : Request) (r : Applied) (v : ℕ) → Told k L → Applies k q r → r .answer ≡ Refused 4 v → Hopeless (grow L q)
   pub none-listed : (starts deadlines pairs old new : List ℕ) (v : ℕ) → Judges starts deadlines pairs old new (Refused 4 v) → Hopeless (list-of starts deadlines pairs)
   pub same-book : (k empty : Book) → Made k → Told empty nothing-listed → ReadsBack k empty
@@ -88,7 +97,16 @@ pub record Demand3 : Type 0 where
       Judges starts deadlines pairs old new r → (r ≡ Accepted 0) × ((i : ℕ) → i < k .size → getD new i 0 ≡ latest-of k i)
   -- every remaining list can be so handed in
   pub in-rows : (L : Listed) (k : Book) → Run L k → (pairs : List ℕ) × (list-of (L .starts) (L .deadlines) pairs ≡ L) × (length pairs ≡ 2 * length (L .orders))
-  -- "and the plan": one remaining list leaves one book, whatever the run
+  -- "and the plan": jobs J and latest times that the definition gives for the remaining list have this finishing time and these bytes
+  pub plan : (L : Listed) (k : Book) (J : Jobs) (times : ℕ → ℕ) (old new : List ℕ) (told : ℕ) → Run L k → Holds 2 L J times → Plans k old new (Accepted told) →
+      (told ≡ finish J (slots 2 J times 4096 4096)) × (new ≡ bytes J times 4096 told ++ drop (2 * told) old)
+  -- one remaining list leaves one book, whatever the run
   pub one-book : (L : Listed) (k b : Book) → Run L k → Run L b → k ≡ b
   -- "A sound request is refused for want of a plan exactly when the list accepted so far, with it added, has none."
   pub refused : (L : Listed) (k : Book) (q : Request) (r : Applied) → Run L k → Applies k q r → Sound L q → (r .answer ≡ Refused 4 0) ↔ (Planned (grow L q) → ⊥)
+
+-- ---- "An order that already follows, and a deadline not below the latest time held, are accepted and change nothing." (01, Requests on a book)
+pub record Unchanged : Type 0 where
+  pub order : (L : Listed) (k : Book) (a b : JobIndex) (r : Applied) → Told k L → Chain (L .orders) (a .0) (b .0) → Applies k (Before a b) r → (r .answer ≡ Accepted 0) × (r .book ≡ k)
+  pub deadline : (k : Book) (j : JobIndex) (d : ℕ) (r : Applied) → Made k → j .0 < k .size → latest-of k (j .0) ≤ d → d ≤ 4096 → Applies k (Earlier j d) r →
+      (r .answer ≡ Accepted 0) × (r .book ≡ k)

@@ -1,4 +1,4 @@
-// The planner for firmware in C: numbers and lent memory alone. A book lies in memory as its four parts.
+// The planner for firmware in C and Rust: numbers and lent memory alone. A book lies in memory as its four parts.
 mod file;
 mod lent;
 mod list;

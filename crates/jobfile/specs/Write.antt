@@ -14,7 +14,7 @@ use Rattle.planner.specs.Sets.{has}
 use Rattle.planner.specs.Unless.{Unless}
 use Rattle.jobfile.specs.Record.{spell}
 
--- what 0, 1, .. up to n give, in their order
+-- what 0, 1, .. below n give, in their order
 unfoldable pub gather : {A : Type 0} → ℕ → (ℕ → List A) → List A
 gather zero f = []
 gather (suc n) f = gather n f ++ f n

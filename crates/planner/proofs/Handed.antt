@@ -82,7 +82,7 @@ module _ (k : Book) (m : Made k) where
     pub in-time : Meets (jobs-of k) (latest-of k) (plan-of k)
     pub deadlines : Meets (jobs-of k) (written (m .0)) (plan-of k)
     pub answer : n ≡ finish-of k
-    pub each : (i : ℕ) → i < k .size → getD new (2 * plan-of k i + core-of k i) 0 ≡ i
+    pub each : (i : ℕ) → i < k .size → (core-of k i < 2) × (getD new (2 * plan-of k i + core-of k i) 255 ≡ i)
     pub others : (u c : ℕ) → u < n → c < 2 → (getD new (2 * u + c) 0 ≡ 255) ⊎ ((i : ℕ) × (i < k .size) × (getD new (2 * u + c) 0 ≡ i) × (plan-of k i ≡ u) × (core-of k i ≡ c))
 
   pub plan-shown : (old new : List ℕ) (n : ℕ) → Plans k old new (Accepted n) → Shows n new
@@ -96,9 +96,9 @@ module _ (k : Book) (m : Made k) where
         answer = ends;
         each = λ i l.
             let s = seat-core (jobs-of k) (latest-of k) i l (layable .placed i l) in
-            at (plan-of k i) (core-of k i) (omega (arith, book-plan .within i l)) (s .0) ∙ ap (byte (jobs-of k)) (s .1) ∙ byte-job (jobs-of k) i l;
+            (s .0, at 255 (plan-of k i) (core-of k i) (omega (arith, book-plan .within i l)) (s .0) ∙ ap (byte (jobs-of k)) (s .1) ∙ byte-job (jobs-of k) i l);
         others = λ u c hu hc.
-            let here = at u c (omega arith) hc in
+            let here = at 0 u c (omega arith) hc in
             ⊎-elim
             (λ h. inl (here ∙ byte-idle (jobs-of k) (seat-of k u c) h))
             (λ l.
@@ -107,11 +107,11 @@ module _ (k : Book) (m : Made k) where
             (le-or-lt (k .size) (seat-of k u c));
       }
     where
-      at : (u c : ℕ) → u < finish-of k → c < 2 → getD new (2 * u + c) 0 ≡ byte (jobs-of k) (seat-of k u c)
-      at u c hu hc =
-          ap (λ l. getD l (2 * u + c) 0) (ap (λ x. x .1) e)
-          ∙ List·getD-append (bytes-of k) (drop (2 * finish-of k) old) 0 (2 * u + c) (omega (arith, bytes-length (jobs-of k) (latest-of k) 4096 (finish-of k)))
-          ∙ bytes-at (jobs-of k) (latest-of k) 4096 (finish-of k) u c 0 hu hc
+      at : (z u c : ℕ) → u < finish-of k → c < 2 → getD new (2 * u + c) z ≡ byte (jobs-of k) (seat-of k u c)
+      at z u c hu hc =
+          ap (λ l. getD l (2 * u + c) z) (ap (λ x. x .1) e)
+          ∙ List·getD-append (bytes-of k) (drop (2 * finish-of k) old) z (2 * u + c) (omega (arith, bytes-length (jobs-of k) (latest-of k) 4096 (finish-of k)))
+          ∙ bytes-at (jobs-of k) (latest-of k) 4096 (finish-of k) u c z hu hc
 
   -- ---- what the code makes of it
   module _ (r : Layout) (x : Lays (jobs-of k) (latest-of k) r) where

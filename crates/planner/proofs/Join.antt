@@ -70,6 +70,10 @@ module _ (rows : List ℕ) (b more : ℕ) where
   pub rows-are : (next : List ℕ) → length next ≡ 64 → ((y : ℕ) → y < 64 → getD next y 0 ≡ joined-of (getD rows y 0) y b more) → next ≡ joined-rows rows b more
   rows-are next l h = ext-getD 0 next (joined-rows rows b more) (l ∙ sym rows-long) (λ y k. h y (omega arith) ∙ sym (rows-at y (omega arith)))
 
+  -- what a row has it keeps
+  pub rows-keep : (y x : ℕ) → y < 64 → T (has (getD rows y 0) x) → T (has (getD (joined-rows rows b more) y 0) x)
+  rows-keep y x l t = rw (rows-at y l) (in-joined (getD rows y 0) y b more x .1 (inl t))
+
 -- nothing more
 pub rows-same : (rows : List ℕ) (b : ℕ) → length rows ≡ 64 → joined-rows rows b 0 ≡ rows
 rows-same rows b l = sym (rows-are rows b 0 rows l (λ y h. sym (joined-nothing (getD rows y 0) y b)))

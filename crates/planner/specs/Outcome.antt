@@ -64,7 +64,7 @@ Outcomes k q r = (L : Listed) → Told k L → Outcome L k q r
 
 -- what apply and amend promise; `made` follows from the rest, and serves the next call
 pub record Applies (k : Book) (q : Request) (r : Applied) : Type 0 where
-  pub outcome : (L : Listed) → Told k L → Outcome L k q r
+  pub outcome : Outcomes k q r
   pub made : Made (r .book)
 
 -- the list enlarged by a request (01, Requests on a book: "the enlarged list")

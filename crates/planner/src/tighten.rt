@@ -25,7 +25,8 @@ enum Moved {
     Shut,
 }
 
-// The latest row beneath the row lent, in its place, once the second job and its followers wait for more jobs; false where no plan meets it.
+// The latest row beneath the row lent, in its place; false where no plan meets it.
+// The second job and all that follow it wait for `more` too: a new order's jobs, and else none.
 pub fn tighten<'a>(
     size: usize,
     start: &'a [u16; 64],

@@ -1,4 +1,4 @@
--- Document 01's example, whole; and the lines that it does not show.
+-- How document 01's example is written, from the values that it shows; and lines that it does not show.
 -- Assumes nothing.
 use mathlib.Core.List.{[], _∷_, _++_}
 use mathlib.Core.Path.{_≡_, refl}
@@ -6,6 +6,7 @@ use Rattle.report.specs.Text.{word, digits, decimal, each}
 use Rattle.report.specs.Line.{stopped-line, jobs-line, job-line}
 use Rattle.report.specs.Listing.{refused-lines, slot-lines}
 
+-- the records' numbers, the bytes of the plan and the times of each job are given here; that the file leads to them is not said
 -- (01, Job file: "prints, whole, for `JB 0 4, JB 0 4, JB 1 3, OR 0 2, OR 1 2, JB 2 3, JB 2 3, JB 2 3`")
 pub example :
     refused-lines (0 ∷ 0 ∷ 0 ∷ 0 ∷ 0 ∷ 0 ∷ 0 ∷ 4 ∷ [])

@@ -1,4 +1,4 @@
--- The whole result at a glance, (0) to (vii). 1 ≤ m throughout; m ≤ 2 where a plan must be made from a row.
+-- The whole result at a glance, (0) to (viii). 1 ≤ m throughout; m ≤ 2 where a plan must be made from a row.
 -- Assumes nothing.
 use mathlib.Core.Logic.{_↔_, _⊎_, inl, inr}
 use mathlib.Core.Path.{_≡_, refl}
@@ -130,7 +130,7 @@ resume-earlier-deadline m pos two J early due times closed e a job deadline h =
 pub few-suffice : (m : ℕ) → 1 ≤ m → (J : Jobs) (early row : ℕ → ℕ) (i s d : ℕ) → Breach m J early row i s d → Few m J early row i
 few-suffice = breach-few
 
--- (vii) jobs renumbered have their times renumbered alike
+-- (viii) jobs renumbered have their times renumbered alike
 pub earliest-renumbered : (J K : Jobs) (of to early : ℕ → ℕ) → Renumbered J K of to → Earliest J early → Earliest K (λ i. early (of i))
 earliest-renumbered J K of to early r = earliest-along J K of to r early (λ i. early (of i)) (λ i l. refl)
 

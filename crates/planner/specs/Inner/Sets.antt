@@ -10,6 +10,6 @@ use Rattle.planner.specs.Sets.{has}
 abbrev pub least : ℕ → ℕ
 least set = trailingZeros 64 set
 
--- job j is due, and follows job i or starts late, and is not i (01, Code places: "count_ones of the due set and (followers or late starters), without job i")
+-- job j is due, and (follows job i or starts late), and is not i (01, Code places: "count_ones of the due set and (followers or late starters), without job i")
 abbrev pub pressed : ℕ → ℕ → ℕ → ℕ → ℕ → Bool
 pressed due followers late i j = (has due j && (has followers j || has late j)) && not (eqb j i)

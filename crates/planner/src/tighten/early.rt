@@ -45,8 +45,11 @@ fn free(before: &[u64; 64], second: JobIndex, more: u64, todo: u64) -> JobIndex
     loop {
         let job = sets::first(rest);
         let i = job.0;
-        if chains::joined(before[i], job, second, more) & todo == 0 {
-            return job;
+        // more frees no job
+        if before[i] & todo == 0 {
+            if chains::joined(before[i], job, second, more) & todo == 0 {
+                return job;
+            }
         }
         rest = sets::rest(rest);
     }

@@ -4,23 +4,16 @@ use mathlib.Core.Path.{refl}
 use borrow.Author.Needs.{needs}
 use Rattle.firmware.proofs.plan.firmware_place.Statement.{statement}
 use Rattle.firmware.proofs.plan.firmware_place.Tie as tie
-use Rattle.firmware.proofs.plan.firmware_place.Reads as reads
-use Rattle.firmware.proofs.plan.firmware_place.Lts as lts
-use Rattle.planner.proofs.place.Reads as place-reads
 
--- src/plan.rt:44:9
 place-requires : tie.Need-place-requires
 place-requires c κs = search needs
 
--- src/plan.rt:46:20
 enum-known-placed : tie.Need-enum-known-placed
 enum-known-placed c = search needs
 
--- src/plan.rt:55:25
 enum-known-placed-2 : tie.Need-enum-known-placed-2
 enum-known-placed-2 c = search needs
 
--- src/plan.rt:30:1
 returns : tie.Need-returns
 returns c =
     let b = c .before .before .before in
@@ -28,7 +21,6 @@ returns c =
     let p = b .before .before .place in
     record { placed = p .result; places = p .ensures; seat = rw e refl; told = rw e refl }
 
--- src/plan.rt:30:1
 returns-2 : tie.Need-returns-2
 returns-2 c =
     let b = c .before in

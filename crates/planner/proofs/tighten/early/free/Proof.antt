@@ -10,7 +10,7 @@ use Rattle.planner.specs.Sets.{has}
 use Rattle.planner.specs.Inner.Chains.{joined-rows}
 use Rattle.planner.specs.Inner.Early.{Free}
 use Rattle.planner.proofs.Bits.{apart-is, apart-has, has-some, rest-walk, rest-less, walk-split, walk-sub}
-use Rattle.planner.proofs.Join.{rows-at}
+use Rattle.planner.proofs.Join.{rows-at, rows-keep}
 use borrow.Author.Needs.{needs}
 use Rattle.planner.proofs.tighten.early.free.Statement.{statement}
 use Rattle.planner.proofs.tighten.early.free.Tie as tie
@@ -27,6 +27,12 @@ loop-holds c = ((λ j t. t), (c .pre .1 .0, c .pre .1 .1 .member, c .pre .1 .1))
 first-requires : tie.Need-first-requires Inv-loop μ-loop
 first-requires c κs = has-some _ (c .loop .inv .1 .0) (c .loop .inv .1 .1)
 
+mul-if1 : tie.Need-mul-if1 Inv-loop μ-loop
+mul-if1 c = search needs
+
+element-copy-out-if1 : tie.Need-element-copy-out-if1 Inv-loop μ-loop
+element-copy-out-if1 c = search needs
+
 mul-joined : tie.Need-mul-joined Inv-loop μ-loop
 mul-joined c = search needs
 
@@ -36,34 +42,35 @@ element-copy-out-joined c = search needs
 joined-requires : tie.Need-joined-requires Inv-loop μ-loop
 joined-requires c κs = search needs
 
--- the row read is the joined row's
-read : (c : tie.After-joined Inv-loop μ-loop) →
-    let a = c .before .before .before .before .args in
-    c .joined .result ≡ getD (joined-rows (a .before .now) (a .second .0) (a .more)) (c .before .before .first .result .0) 0
-read c = c .joined .ensures ∙ sym (rows-at _ _ _ _ (c .before .before .first .ensures .0))
-
 returns : tie.Need-returns Inv-loop μ-loop
 returns c =
-    let f = c .before .before .before .first in
-    (f .ensures .0, record { member = c .before .before .before .before .loop .inv .0 (f .result .0) (f .ensures .1); ready = apart-has _ _ (rw (read (c .before)) at (c .if1 .taken)) })
+    let f = c .before .before .before .before .before .first in
+    let p = c .before .before .before .before .before .before in
+    let a = p .before .args in
+    let read : c .before .joined .result ≡ getD (joined-rows (a .before .now) (a .second .0) (a .more)) (f .result .0) 0 = c .before .joined .ensures ∙ sym (rows-at _ _ _ _ (f .ensures .0)) in
+    (f .ensures .0, record { member = p .loop .inv .0 (f .result .0) (f .ensures .1); ready = apart-has _ _ (rw read at (c .if2 .taken)) })
 
 rest-requires : tie.Need-rest-requires Inv-loop μ-loop
-rest-requires c κs = let p = c .before .before .before .before in has-some _ (p .loop .inv .1 .0) (p .loop .inv .1 .1)
+rest-requires c κs = let p = c .before .before .before in has-some _ (p .loop .inv .1 .0) (p .loop .inv .1 .1)
 
 loop-less : tie.Need-loop-less Inv-loop μ-loop
 loop-less c =
-    let f = c .before .before .before .before .first in
+    let f = c .before .before .before .first in
     rest-less _ _ _ (f .ensures .0) (f .ensures .1) (f .ensures .3) (c .rest .ensures)
 
 loop-again : tie.Need-loop-again Inv-loop μ-loop
 loop-again c =
-    let p = c .before .before .before .before .before in
+    let p = c .before .before .before .before in
     let a = p .before .args in
     let rows = joined-rows (a .before .now) (a .second .0) (a .more) in
-    let f = c .before .before .before .before .first in
+    let f = c .before .before .before .first in
     let w = rest-walk (p .loop .rest) (c .rest .result) (f .result .0) (f .ensures .3) (c .rest .ensures) in
     let g = p .loop .inv .1 in
-    let x : Free (f .result .0) (getD rows (f .result .0) 0) (a .todo) → ⊥ = λ y. c .before .if1 .left (apart-is _ _ (p .before .fits .todo .fits) (rw (← read (c .before .before)) at (y .ready))) in (
+    let x : Free (f .result .0) (getD rows (f .result .0) 0) (a .todo) → ⊥ = λ y.
+    ⊎-elim
+    (λ v. v .3 .left (apart-is (v .2 .result) (a .todo) (p .before .fits .todo .fits) (λ j t. y .ready j (rw (v .2 .ensures ∙ sym (rows-at (a .before .now) (a .second .0) (a .more) (f .result .0) (f .ensures .0))) at t))))
+    (λ v. v .left (apart-is (getD (a .before .now) (f .result .0) 0) (a .todo) (p .before .fits .todo .fits) (λ j t. y .ready j (rows-keep (a .before .now) (a .second .0) (a .more) (f .result .0) j (f .ensures .0) t))))
+    (c .before .if1 .came) in (
       (λ j t. p .loop .inv .0 j (walk-sub (p .loop .rest) (c .rest .result) (f .result .0) w j t)),
       ⊎-elim (λ e. absurd (x (subst (λ (n : ℕ). Free n (getD rows n 0) (a .todo)) e (g .2)))) (λ t. (g .0, t, g .2)) (walk-split (p .loop .rest) (c .rest .result) (f .result .0) w (g .0) (g .1)),
     )
@@ -76,6 +83,8 @@ free-spec =
     μ-loop
     loop-holds
     first-requires
+    mul-if1
+    element-copy-out-if1
     mul-joined
     element-copy-out-joined
     joined-requires
