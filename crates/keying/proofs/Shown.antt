@@ -3,7 +3,7 @@
 use mathlib.Core.Bool.{Bool, true, false, cond, _&&_}
 use mathlib.Core.List.{List, [], _∷_, _++_}
 use mathlib.Core.Logic.{_⊎_, inl, inr}
-use mathlib.Core.Path.{_≡_, refl, sym, ap, _∙_}
+use mathlib.Core.Path.{_≡_, refl, ap, _∙_}
 use Prim.Native.Nat.{ℕ, _+_, _-_, _*_, _≤_, _<_}
 use native.Mathlib.Omega.{arith}
 use native.Mathlib.Decide.{decLe}
@@ -15,7 +15,7 @@ use Rattle.keying.specs.Inner.Machine.{number-with, word-with, word-mark
 use Rattle.keying.specs.declared.word.Word.{Word}
 use Rattle.keying.specs.declared.entry.Entry.{Entry}
 use Rattle.keying.specs.declared.entry.Said.{Said}
-use Rattle.keying.specs.declared.entry.Said.the-variants.{Nothing, Told, Wrong}
+use Rattle.keying.specs.declared.entry.Said.the-variants.{Told, Wrong}
 use Rattle.keying.specs.declared.entry.Slip.the-variants.{UnknownWord, MissingField, ExtraField, NotNumber, TooLarge}
 use Rattle.keying.specs.declared.reader.Reader.{Reader}
 

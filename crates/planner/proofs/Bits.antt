@@ -10,13 +10,14 @@ use mathlib.Core.Logic.{_⊎_, inl, inr, ⊎-elim}
 use mathlib.Core.Path.{_≡_, refl, sym, ap, ap₂, _∙_, subst}
 use borrow.Author.Tests.{lt-ltb, le-ltb, eq-eqb, ne-eqb, eqb-true}
 use lib.Dec.{T, T-not, not-T, eqb→eq, eqb-refl, eqb, ltb, lit<, eqb·suc-zero, eqb·zero-suc, eqb·suc-suc}
-use lib.Bits.{bitAnd, bitOr, bitXor, and-le-r, and-shr, or-shr, xor-shr, and-mod, or-mod, xor-mod}
+use lib.Bits.{bitAnd, bitOr, and-le-r, and-shr, or-shr, and-mod, or-mod}
 use lib.Count.{ones, ones-cat, trailingZeros, under}
 use lib.Pow.{pow-pos, pow-lt, pow-mono, mod-pow-add, shr-shr, shl-exact}
 use Rattle.schedule.specs.Count.{one, count}
-use Rattle.schedule.proofs.Tests.{test, and-pair, and-fst, and-snd, lt-by}
+use Rattle.schedule.proofs.Tests.{test, and-pair, and-fst, and-snd}
 use Rattle.schedule.proofs.Counting.{count-lt, count-but, count-mono}
-use Rattle.planner.specs.Sets.{has, least}
+use Rattle.planner.specs.Sets.{has}
+use Rattle.planner.specs.Inner.Sets.{least}
 
 -- what holds at 0 and at 1 holds of a digit
 digit : (P : ℕ → Type 0) → P 0 → P 1 → (n : ℕ) → P (n % 2)
@@ -51,13 +52,6 @@ and-has = op-has bitAnd (λ p q. p && q) and-shr and-mod refl refl refl refl
 
 pub or-has : (x y j : ℕ) → has (bitOr x y) j ≡ (has x j || has y j)
 or-has = op-has bitOr (λ p q. p || q) or-shr or-mod refl refl refl refl
-
-abbrev pub differ? : Bool → Bool → Bool
-differ? true q = not q
-differ? false q = q
-
-pub xor-has : (x y j : ℕ) → has (bitXor x y) j ≡ differ? (has x j) (has y j)
-xor-has = op-has bitXor differ? xor-shr xor-mod refl refl refl refl
 
 -- digits past a number's length are not set
 pub high-has : (x j : ℕ) → x < 2 ^ j → has x j ≡ false
@@ -216,10 +210,7 @@ empty-has j = high-has 0 j (pow-pos j)
 pub empty-is : (x : ℕ) → x < 2 ^ 64 → ((j : ℕ) → has x j ≡ false) → x ≡ 0
 empty-is x h f = has-same 64 x 0 h (pow-pos 64) (λ j l. f j ∙ sym (empty-has j))
 
--- a job in a set is below 64, and its set is not empty
-pub has-below : (x j : ℕ) → x < 2 ^ 64 → T (has x j) → j < 64
-has-below x j h t = lt-by j 64 (λ le. subst T (high-has x j (lt-of-lt-of-le h (pow-mono {i = 64} {j = j} le))) t)
-
+-- a set with a job in it is not empty
 pub has-some : (x j : ℕ) → T (has x j) → x ≡ 0 → ⊥
 has-some x j t e = subst T (ap (λ (n : ℕ). has n j) e ∙ empty-has j) t
 
@@ -302,7 +293,7 @@ module _ (x y k : ℕ) (w : (j : ℕ) → has y j ≡ (has x j && not (eqb j k))
   pub walk-out : T (has y k) → ⊥
   walk-out t = T-not (eqb k k) (and-snd (has x k) (not (eqb k k)) (rw (w k) at t)) (eqb-refl k)
 
-  pub walk-less : k < 64 → T (has x k) → count 64 (has y) < count 64 (has x)
+  walk-less : k < 64 → T (has x k) → count 64 (has y) < count 64 (has x)
   walk-less l t = count-lt 64 (has y) (has x) k l (λ j h. walk-sub j) t walk-out
 
   pub walk-one : k < 64 → T (has x k) → count 64 (has x) ≡ count 64 (has y) + 1
@@ -310,6 +301,10 @@ module _ (x y k : ℕ) (w : (j : ℕ) → has y j ≡ (has x j && not (eqb j k))
       let but : count 64 (λ j. not (eqb j k) && has x j) ≤ count 64 (has y) = count-mono 64 (λ j. not (eqb j k) && has x j) (has y)
       (λ j h u. rw (w j) (and-pair (has x j) (not (eqb j k)) (and-snd (not (eqb j k)) (has x j) u) (and-fst (not (eqb j k)) (has x j) u))) in
       omega (arith, walk-less l t, count-but 64 (has x) k)
+
+-- the walk over a set with its first job taken out is shorter
+pub rest-less : (x y k : ℕ) → k < 64 → T (has x k) → k ≡ least x → ((j : ℕ) → has y j ≡ (has x j && not (eqb j (least x)))) → count 64 (has y) < count 64 (has x)
+rest-less x y k l t e w = walk-less x y k (rest-walk x y k e w) l t
 
 -- sets apart have an empty meet
 none-both : (a b : Bool) → (T a → T b → ⊥) → (a && b) ≡ false

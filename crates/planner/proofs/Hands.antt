@@ -17,7 +17,7 @@ use Rattle.planner.specs.declared.refusal.Answer.the-variants.{Accepted,
 use Rattle.planner.specs.Sets.{has}
 use Rattle.planner.specs.Told.{row-in}
 use Rattle.planner.specs.Inner.Tighten.{Tightenable, Tightens}
-use Rattle.planner.specs.Inner.List.{Hands, Settleable, Settles, none, fits}
+use Rattle.planner.specs.Inner.List.{Hands, Settleable, HandsOut, none, fits}
 use Rattle.planner.proofs.Step.{zeros}
 
 pub hands-none : (times row : List ℕ) → Hands 0 times row row
@@ -63,9 +63,9 @@ module _ (starts deadlines before row start due : List ℕ) (s : Settleable star
   starting f = record { size = length starts; start = f; before = λ a b. has (getD before b 0) a }
 
   module _ (times : List ℕ) (found : Bool) (t : Tightens (length starts) start before due times found) where
-    pub settles-fits : (after : List ℕ) → found ≡ true → Hands (length starts) times row after → Settles starts deadlines before row after (Accepted 0)
+    pub settles-fits : (after : List ℕ) → found ≡ true → Hands (length starts) times row after → HandsOut starts deadlines before row after (Accepted 0)
     settles-fits after e h =
         fits times (alike (λ f g. (early : ℕ → ℕ) → Earliest (starting f) early → Latest 2 (starting f) early g (row-in times)) (t .latest e)) refl h
 
-    pub settles-none : found ≡ false → Settles starts deadlines before row row (Refused 4 0)
+    pub settles-none : found ≡ false → HandsOut starts deadlines before row row (Refused 4 0)
     settles-none e = none (alike (λ f g. HasPlan 2 (starting f) g → ⊥) (t .none e)) refl refl

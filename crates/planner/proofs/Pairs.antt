@@ -16,7 +16,7 @@ use Rattle.schedule.proofs.Search.{split-last}
 use Rattle.schedule.proofs.Chains.{chain-grows, chain-held, ordered-append}
 use Rattle.planner.specs.Sets.{has}
 use Rattle.planner.specs.Judged.{first-of, second-of, pairs-of, Looping}
-use Rattle.planner.specs.Inner.List.{Held, Spells, Follows}
+use Rattle.planner.specs.Inner.List.{Held, Spells, TakesIn}
 use Rattle.planner.proofs.Step.{zeros, none-has}
 
 -- a chain that was, or one through a before b
@@ -64,7 +64,7 @@ pub spells-none : (pairs : List ℕ) → Spells pairs 0 (replicate 64 0)
 unfolding pairs-of
 spells-none pairs = record { long = refl; chains = λ a b. ((λ t. absurd (rw (zeros 64 b, none-has a) at t)), (λ c. absurd (no-chain c))) }
 
-pub spells-more : (pairs rows next : List ℕ) (n : ℕ) → Spells pairs n rows → Follows (first-of pairs n) (second-of pairs n) rows next → Spells pairs (n + 1) next
+pub spells-more : (pairs rows next : List ℕ) (n : ℕ) → Spells pairs n rows → TakesIn (first-of pairs n) (second-of pairs n) rows next → Spells pairs (n + 1) next
 spells-more pairs rows next n s f = rw add-one (record { long = ⊎-elim (λ u. rw (u .1) (s .long)) (λ u. u .0) f; chains = go f })
   where
     a : ℕ
@@ -76,7 +76,7 @@ spells-more pairs rows next n s f = rw add-one (record { long = ⊎-elim (λ u. 
     o : List (ℕ × ℕ)
     o = pairs-of pairs n
 
-    go : Follows a b rows next → (x y : ℕ) → T (has (getD next y 0) x) ↔ Chain (pairs-of pairs (suc n)) x y
+    go : TakesIn a b rows next → (x y : ℕ) → T (has (getD next y 0) x) ↔ Chain (pairs-of pairs (suc n)) x y
     go (inl u) x y = rw (u .1) (
       (λ t. pairs-grow pairs n x y .1 (inl (s .chains x y .0 t))),
       (λ c. s .chains x y .1 (follows-old o a b x y (s .chains a b .0 (u .0)) (pairs-grow pairs n x y .0 c))),

@@ -197,6 +197,10 @@ module _ (L : Listed) (k : Book) (t : Told k L) where
     unfolding with-order written
     order-limited = record { start = t .limited .start; deadline = t .limited .deadline }
 
+    -- both jobs are in the list
+    pub order-held : (length (L .starts) ≤ a) ⊎ (length (L .starts) ≤ b) → ⊥
+    order-held f = ⊎-elim (λ x. omega (arith, size-is)) (λ x. omega (arith, size-is)) f
+
     -- b precedes a, or neither closes a loop
     pub order-back : has (getD (k .before) a 0) b ≡ true → Chain (L .orders) b a
     order-back e = t .holds .reads .before b a lb la .0 (true-T _ e)

@@ -12,7 +12,7 @@ use lib.ListN.{getD}
 use Rattle.schedule.proofs.Tests.{and-fst, and-snd, and-pair, or-left, or-right, or-split, same-test, le-or-lt}
 use Rattle.planner.specs.declared.tighten.Due.{Due}
 use Rattle.planner.specs.Sets.{has}
-use Rattle.planner.specs.Inner.Lower.{DueBy, DueAmong, DueBelow}
+use Rattle.planner.specs.Inner.Lower.{DueBy, DueAmong}
 use Rattle.planner.specs.Told.{row-in}
 use Rattle.planner.proofs.Bits.{has-some, walk-sub, walk-split}
 
@@ -26,7 +26,7 @@ pub record Gathered (limit among : ℕ) (row : List ℕ) (d jobs rest : ℕ) : T
 pub gathered-none : (limit among : ℕ) (row : List ℕ) → Gathered limit among row 0 0 among
 gathered-none limit among row = record { within = λ j t. t; into = λ j t. absurd (has-some 0 j t refl); met = λ j t. inl t; low = inl (refl, refl) }
 
-module _ (limit among : ℕ) (row : List ℕ) (d jobs rest : ℕ) (g : Gathered limit among row d jobs rest) where
+module _ {limit among : ℕ} {row : List ℕ} {d jobs rest : ℕ} (g : Gathered limit among row d jobs rest) where
   module _ (k left : ℕ) (w : (j : ℕ) → has left j ≡ (has rest j && not (eqb j k))) (t : T (has rest k)) where
     pub gathered-more : (d′ more : ℕ) → getD row k 0 < limit → ((j : ℕ) → has more j ≡ (has jobs j || eqb j k)) →
         d ≤ d′ → getD row k 0 ≤ d′ → d′ < limit → Gathered limit among row d′ more left
@@ -66,6 +66,12 @@ pub record Among (size limit : ℕ) (row : List ℕ) (among : ℕ) : Type 0 wher
 
 pub among-start : (size limit : ℕ) (row : List ℕ) (among : ℕ) → ((j : ℕ) → has among j ≡ ltb j size) → Among size limit row among
 among-start size limit row among w = record { held = λ j t. ltb→lt j size (rw (w j) at t); all = λ j l h. rw (w j) (lt→ltb j size l) }
+
+-- the jobs of the row whose time is below a limit, and the greatest such time
+pub record DueBelow (limit size : ℕ) (row : List ℕ) (r : Due) : Type 0 where
+  pub jobs : (j : ℕ) → has (r .jobs) j ≡ (ltb j size && ltb (getD row j 0) limit)
+  pub top : (j : ℕ) → T (has (r .jobs) j) → getD row j 0 ≤ r .d
+  pub some : (r .jobs ≡ 0 → ⊥) → r .d < limit
 
 pub due-all : (limit size : ℕ) (row : List ℕ) (among : ℕ) (r : Due) → Among size limit row among → DueAmong limit among row r → DueBelow limit size row r
 due-all limit size row among r a b = record {

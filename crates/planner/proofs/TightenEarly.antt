@@ -128,7 +128,7 @@ pub record Making (size : ℕ) (start before early order : List ℕ) (todo k : �
   pub done : (i : ℕ) → i < size → T (has todo i) ⊎ (getD early i 0 ≡ earliest-of size start before i)
   pub jobs : (l : ℕ) → l < k → getD order l 0 < size
 
-module _ (size : ℕ) (start before : List ℕ) (s : Startable size start before) where
+module _ {size : ℕ} {start before : List ℕ} (s : Startable size start before) where
   abbrev J : Jobs
   J = jobs-in size start before
 
@@ -148,7 +148,7 @@ module _ (size : ℕ) (start before : List ℕ) (s : Startable size start before
     jobs = λ l x. absurd (omega arith);
   }
 
-  module _ (early order : List ℕ) (todo k : ℕ) (q : Making size start before early order todo k) where
+  module _ {early order : List ℕ} {todo k : ℕ} (q : Making size start before early order todo k) where
     pub making-free : k < size → (i : ℕ) × Free i (getD before i 0) todo
     making-free l =
         let n : count 64 (has todo) ≡ count size (has todo) = count-cut size 64 (has todo) (has todo) (s .few) (λ j x. refl)
@@ -160,14 +160,14 @@ module _ (size : ℕ) (start before : List ℕ) (s : Startable size start before
         none true f = absurd (f tt)
         none false f = refl
 
-    module _ (i : ℕ) (f : Free i (getD before i 0) todo) where
+    module _ {i : ℕ} (f : Free i (getD before i 0) todo) where
       ready : (a : ℕ) → T (has (getD before i 0) a) → (a < size) × (getD early a 0 ≡ E a)
       ready a t = let l = s .held a i t .0 in (l, ⊎-elim (λ u. absurd (f .ready a t u)) (λ x. x) (q .done a l))
 
       li : i < size
       li = q .held i (f .member)
 
-      module _ (time : ℕ) (a : After (getD start i 0) (getD before i 0) early time) where
+      module _ {time : ℕ} (a : After (getD start i 0) (getD before i 0) early time) where
         timed : time ≡ E i
         timed = le-antisymm
             (⊎-elim (λ x. omega (arith, e .raised .above i li)) (λ x. omega (arith, x .2, ready (x .0) (x .1) .1, e .raised .apart (x .0) i (ready (x .0) (x .1) .0) li (x .1))) (a .some))

@@ -8,7 +8,7 @@ use native.Mathlib.Omega.{arith}
 use lib.Dec.{T}
 use Rattle.schedule.specs.Jobs.{Jobs}
 use Rattle.schedule.specs.Plan.{Valid, Meets, HasPlan}
-use Rattle.schedule.specs.Times.{N, up, left, Breach, Consistent, Raised, Earliest, Beneath}
+use Rattle.schedule.specs.Times.{N, up, Breach, Consistent, Raised, Earliest, Beneath}
 use Rattle.schedule.proofs.Rows.{put-all, put-le}
 use Rattle.schedule.proofs.Sound.{valid-above}
 use Rattle.schedule.proofs.Facts.{follower-later}
@@ -36,7 +36,7 @@ bound-same J early due row next e b = record {
 pub bound-none : (J : Jobs) (early due row : ℕ → ℕ) → Bound 2 J early due row → (i : ℕ) → i < J .size → row i ≡ 0 → HasPlan 2 J due → ⊥
 bound-none J early due row b i l z p = omega (arith, b .plans (p .0) (p .1) (p .2) .ends i l)
 
-module _ (J : Jobs) (early row : ℕ → ℕ) (i : ℕ) (l : i < J .size) where
+module _ (J : Jobs) (early row : ℕ → ℕ) {i : ℕ} (l : i < J .size) where
   -- a time below which no plan and no consistent row has the job
   pub eased-by : (time : ℕ) → time ≤ row i → ((slot : ℕ → ℕ) → Valid 2 J slot → Meets J row slot → slot i + 1 ≤ time) →
       ((low : ℕ → ℕ) → Consistent 2 J early low → Beneath J low row → low i ≤ time) → Eased J early row i time
@@ -66,7 +66,7 @@ module _ (J : Jobs) (early row : ℕ → ℕ) (i : ℕ) (l : i < J .size) where
       clear = λ z. absurd (z refl);
     }
 
-    module _ (d n : ℕ) (by : row i ≤ d) (open-window : early i < row i) (p : Pressure J early row i d n) where
+    module _ {d n : ℕ} (p : Pressure J early row i d n) (by : row i ≤ d) (open-window : early i < row i) where
       -- enough is left
       pub ruled-still : row i + (n + 1) / 2 ≤ d → Ruled J early row i d (row i)
       unfolding up

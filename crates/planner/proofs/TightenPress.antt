@@ -2,7 +2,7 @@
 -- Assumes nothing.
 use mathlib.Core.Bool.{Bool, true, false, not, _&&_, _||_}
 use mathlib.Core.List.{List}
-use mathlib.Core.Logic.{_⊎_, inl, inr, ⊎-elim}
+use mathlib.Core.Logic.{inl, inr, ⊎-elim}
 use mathlib.Core.Path.{_≡_, refl, sym, ap, ap₂, _∙_}
 use Prim.Native.Nat.{ℕ, _+_, _-_, _*_, _≤_, _<_}
 use native.Mathlib.Nat.{le-refl}
@@ -15,7 +15,8 @@ use Rattle.schedule.specs.Jobs.{Jobs}
 use Rattle.schedule.specs.Times.{N, presses}
 use Rattle.schedule.proofs.Tests.{le-or-lt}
 use Rattle.schedule.proofs.Press.{N-mono, N-bound}
-use Rattle.planner.specs.Sets.{has, pressed}
+use Rattle.planner.specs.Sets.{has}
+use Rattle.planner.specs.Inner.Sets.{pressed}
 use Rattle.planner.specs.Inner.Lower.{At, Pressure}
 use Rattle.planner.proofs.Bits.{count-cut}
 
@@ -32,7 +33,7 @@ pub same-leb : (a b x : ℕ) → (a ≤ x → b ≤ x) → (b ≤ x → a ≤ x)
 same-leb a b x f g = ⊎-elim (λ h. le-leb a x h ∙ sym (le-leb b x (f h)))
     (λ h. lt-leb a x h ∙ sym (⊎-elim (λ y. absurd (omega (arith, g y))) (λ y. lt-leb b x y) (le-or-lt b x))) (le-or-lt a x)
 
-module _ (J : Jobs) (early row : ℕ → ℕ) (i held d due followers from : ℕ) (times late : List ℕ) (a : At J early row i held d due followers from times late) where
+module _ {J : Jobs} {early row : ℕ → ℕ} {i held d due followers from : ℕ} {times late : List ℕ} (a : At J early row i held d due followers from times late) where
   abbrev at : ℕ → ℕ
   at k = getD times k 0
 
@@ -81,7 +82,7 @@ module _ (J : Jobs) (early row : ℕ → ℕ) (i held d due followers from : ℕ
       bound = omega (arith, N-bound J early row i (at from) d, a .levels .few);
     }
 
-    module _ (k most : ℕ) (p : Passed k most) where
+    module _ {k most : ℕ} (p : Passed k most) where
       module _ (h : at k < held) where
         count-here : count 64 (pressed due followers (getD late k 0) i) ≡ Ns (at k)
         count-here = press-N k (at k) (p .entry) (λ j l. refl)

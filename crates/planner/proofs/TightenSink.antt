@@ -25,34 +25,31 @@ use Rattle.planner.specs.Sets.{has}
 use Rattle.planner.specs.Told.{jobs-in, row-in}
 use Rattle.planner.specs.Inner.Tables.{Follows}
 use Rattle.planner.specs.Inner.Tighten.{Tightens}
-use Rattle.planner.specs.Inner.Lower.{DueBy, DueBelow, Clear, Eased, Ruled, Sunk, Fell, Moves, AtD, Swept, Settles}
+use Rattle.planner.specs.Inner.Lower.{DueBy, Clear, Eased, Ruled, Sunk, Fell, Moves, AtD, Swept, Settles}
 use Rattle.planner.proofs.Bits.{and-has, has-some, walk-split}
 use Rattle.schedule.proofs.Same.{latest-any}
+use Rattle.planner.proofs.TightenDue.{DueBelow}
 use Rattle.planner.proofs.TightenLower.{bound-join, bound-same, bound-none}
 
 holds : (b : Bool) → T b → b ≡ true
 holds true t = refl
 
 -- ---- a row as it is, and one after another
-module _ (J : Jobs) (early : ℕ → ℕ) where
-  pub sunk-same : (row : List ℕ) → Sunk J early row row
-  sunk-same row = record { rest = λ i g. refl; bound = record { beneath = λ i l. omega arith; plans = λ slot v k. k; rows = λ low c x. x } }
+pub sunk-same : (J : Jobs) (early : ℕ → ℕ) (row : List ℕ) → Sunk J early row row
+sunk-same J early row = record { rest = λ i g. refl; bound = record { beneath = λ i l. omega arith; plans = λ slot v k. k; rows = λ low c x. x } }
 
-  module _ (first row next : List ℕ) (q : Sunk J early first row) where
-    pub sunk-join : Sunk J early row next → Sunk J early first next
-    sunk-join r = record { rest = λ i g. r .rest i g ∙ q .rest i g; bound = bound-join J early (row-in first) (row-in row) (row-in next) (q .bound) (r .bound) }
+module _ {J : Jobs} {early : ℕ → ℕ} {first row : List ℕ} (q : Sunk J early first row) where
+  pub sunk-join : {next : List ℕ} → Sunk J early row next → Sunk J early first next
+  sunk-join {next = next} r = record { rest = λ i g. r .rest i g ∙ q .rest i g; bound = bound-join J early (row-in first) (row-in row) (row-in next) (q .bound) (r .bound) }
 
-    pub none-join : (HasPlan 2 J (row-in row) → ⊥) → HasPlan 2 J (row-in first) → ⊥
-    none-join f p = f (p .0, p .1, q .bound .plans (p .0) (p .1) (p .2))
+  pub none-join : (HasPlan 2 J (row-in row) → ⊥) → HasPlan 2 J (row-in first) → ⊥
+  none-join f p = f (p .0, p .1, q .bound .plans (p .0) (p .1) (p .2))
 
-    pub fell-join : Sunk J early row next → Fell J row next → Fell J first next
-    fell-join r f = (f .0, f .1, omega (arith, f .2, q .bound .beneath (f .0) (f .1)))
-
-    pub fell-then : (last : List ℕ) → Fell J row next → Sunk J early next last → Fell J first last
-    fell-then last f r = (f .0, f .1, omega (arith, f .2, q .bound .beneath (f .0) (f .1), r .bound .beneath (f .0) (f .1)))
+  pub fell-then : {next last : List ℕ} → Fell J row next → Sunk J early next last → Fell J first last
+  fell-then f r = (f .0, f .1, omega (arith, f .2, q .bound .beneath (f .0) (f .1), r .bound .beneath (f .0) (f .1)))
 
   -- one job's time stored
-  module _ (first row : List ℕ) (i time : ℕ) (few : J .size ≤ 64) (long : length row ≡ 64) (q : Sunk J early first row) (l : i < J .size) (e : Eased J early (row-in row) i time) where
+  module _ {i time : ℕ} (few : J .size ≤ 64) (long : length row ≡ 64) (l : i < J .size) (e : Eased J early (row-in row) i time) where
     pub sunk-put : Sunk J early first (set row i time)
     sunk-put = record {
       rest = λ j g. getD-set-other row i j time 0 (λ x. omega arith) ∙ q .rest j g;
@@ -91,8 +88,8 @@ due-job size row d due s i t =
 pub lowering-start : (J : Jobs) (early : ℕ → ℕ) (row : List ℕ) (d due : ℕ) → DueBy (J .size) (row-in row) d due → Lowering J early row row d due 0 due
 lowering-start J early row d due s = record { soon = s; sunk = sunk-same J early row; still = λ z. (refl, (λ j t. inl t)); fell = λ f. absurd (f refl) }
 
-module _ (J : Jobs) (early : ℕ → ℕ) (first row : List ℕ) (d due moved rest : ℕ) (few : J .size ≤ 64) (long : length row ≡ 64) (q : Lowering J early first row d due moved rest) where
-  module _ (i left time : ℕ) (in-due : T (has due i)) (w : (j : ℕ) → has left j ≡ (has rest j && not (eqb j i)))
+module _ {J : Jobs} {early : ℕ → ℕ} {first row : List ℕ} {d due moved rest : ℕ} (few : J .size ≤ 64) (long : length row ≡ 64) (q : Lowering J early first row d due moved rest) where
+  module _ {i time : ℕ} (left : ℕ) (in-due : T (has due i)) (w : (j : ℕ) → has left j ≡ (has rest j && not (eqb j i)))
       (r : Ruled J early (row-in row) i d time) (some : time ≡ 0 → ⊥) where
     job : (i < J .size) × (getD row i 0 ≤ d)
     job = due-job (J .size) (row-in row) d due (q .soon) i in-due
@@ -103,7 +100,7 @@ module _ (J : Jobs) (early : ℕ → ℕ) (first row : List ℕ) (d due moved re
     pub lowering-moved : (more : ℕ) → ((j : ℕ) → has more j ≡ (has moved j || eqb j i)) → time < getD row i 0 → Lowering J early first (set row i time) d due more left
     lowering-moved more wm h = record {
       soon = λ j. ⊎-elim (λ x. at-i j (eqb→eq j i x)) (λ f. q .soon j ∙ ap (λ (n : ℕ). ltb j (J .size) && leb n d) (sym (getD-set-other row i j time 0 (λ x. f (subst (λ (n : ℕ). T (eqb j n)) x (eqb-refl j)))))) (test (eqb j i));
-      sunk = sunk-put J early first row i time few long (q .sunk) (job .0) (r .eased);
+      sunk = sunk-put (q .sunk) few long (job .0) (r .eased);
       still = λ z. absurd (has-some more i (rw (wm i) (or-right (has moved i) (eqb i i) (eqb-refl i))) z);
       fell = λ f. (i, job .0, omega (arith, stored, q .sunk .bound .beneath i (job .0)));
     }
@@ -150,13 +147,13 @@ pub record Passing (J : Jobs) (early : ℕ → ℕ) (first row : List ℕ) (move
 pub passing-start : (J : Jobs) (early : ℕ → ℕ) (row : List ℕ) (limit : ℕ) → ((i : ℕ) → i < J .size → getD row i 0 < limit) → Passing J early row row 0 limit
 passing-start J early row limit h = record { sunk = sunk-same J early row; still = λ z. (refl, (λ k l g. absurd (omega (arith, h k l)))); fell = λ f. absurd (f refl) }
 
-module _ (J : Jobs) (early : ℕ → ℕ) (first row : List ℕ) (moved limit : ℕ) (q : Passing J early first row moved limit) (r : Due) (b : DueBelow limit (J .size) row r) where
+module _ {J : Jobs} {early : ℕ → ℕ} {first row : List ℕ} {moved limit : ℕ} (q : Passing J early first row moved limit) {r : Due} (b : DueBelow limit (J .size) row r) where
   in-set : (k : ℕ) → k < J .size → getD row k 0 < limit → T (has (r .jobs) k)
   in-set k l h = rw (b .jobs k) (and-pair (ltb k (J .size)) (ltb (getD row k 0) limit) (lt→ltb k (J .size) l) (lt→ltb (getD row k 0) limit h))
 
   -- nothing moved at d
-  pub passing-still : (next : List ℕ) → next ≡ row → AtD J early (row-in row) (r .d) → Passing J early first next moved (r .d)
-  passing-still next e clear = subst (λ (x : List ℕ). Passing J early first x moved (r .d)) (sym e) (record {
+  pub passing-still : {next : List ℕ} → next ≡ row → AtD J early (row-in row) (r .d) → Passing J early first next moved (r .d)
+  passing-still e clear = subst (λ (x : List ℕ). Passing J early first x moved (r .d)) (sym e) (record {
     sunk = q .sunk;
     still = λ z. (q .still z .0, (λ k l h. ⊎-elim (λ g. q .still z .1 k l g) (λ g. here z k l h g) (le-or-lt limit (getD first k 0))));
     fell = q .fell;
@@ -169,11 +166,11 @@ module _ (J : Jobs) (early : ℕ → ℕ) (first row : List ℕ) (moved limit : 
           subst (λ (n : ℕ). AtD J early (row-in first) n) (sym top) (subst (λ (x : List ℕ). AtD J early (row-in x) (r .d)) (q .still z .0) clear)
 
   -- some jobs moved, and those before them followed
-  pub passing-moved : (low next : List ℕ) (all : ℕ) → (all ≡ 0 → ⊥) → Sunk J early row low → Fell J row low → Sunk J early low next → Passing J early first next all (r .d)
-  passing-moved low next all some x f y = record {
-    sunk = sunk-join J early first row next (q .sunk) (sunk-join J early row low next x y);
+  pub passing-moved : {low next : List ℕ} {all : ℕ} → (all ≡ 0 → ⊥) → Sunk J early row low → Fell J row low → Sunk J early low next → Passing J early first next all (r .d)
+  passing-moved some x f y = record {
+    sunk = sunk-join (q .sunk) (sunk-join x y);
     still = λ z. absurd (some z);
-    fell = λ g. fell-then J early first row low (q .sunk) next f y;
+    fell = λ g. fell-then (q .sunk) f y;
   }
 
   pub passing-moves : r .jobs ≡ 0 → Moves J early first row (Swept J early (row-in first)) (Those moved)
@@ -210,11 +207,11 @@ module _ (size : ℕ) (start before row next : List ℕ) (long : length next ≡
     latest = λ b other o. latest-any 2 J (row-in early) other (row-in row) (row-in next) e o
         (record { consistent = swept-consistent J (row-in early) (row-in next) (s .swept b); beneath = sunk b .bound .beneath; greatest = sunk b .bound .rows });
     rest = λ b. sunk b .rest;
-    none = λ b. none-join J (row-in early) row mid mid q (s .none b);
+    none = λ b. none-join q (s .none b);
   }
     where
       sunk : fits ≡ true → Sunk J (row-in early) row next
-      sunk b = sunk-join J (row-in early) row mid next q (s .sunk b)
+      sunk b = sunk-join q (s .sunk b)
 
   pub tightens-none : (HasPlan 2 J (row-in row) → ⊥) → Tightens size start before row next false
   tightens-none f = record { length = long; latest = λ b. absurd (subst T (sym b) tt); rest = λ b. absurd (subst T (sym b) tt); none = λ b. f }

@@ -19,7 +19,7 @@ use Rattle.planner.specs.Told.{jobs-in, row-in}
 use Rattle.planner.specs.Unless.{Unless, refused, passed}
 use Rattle.planner.specs.Outcome.{Planned}
 use Rattle.planner.specs.Judged.{list-of, Unsound, number-for, Looping, turned-down, Fitted}
-use Rattle.planner.specs.Inner.List.{First, Numbers, Held, Spells, Settleable, Settles, none, fits}
+use Rattle.planner.specs.Inner.List.{First, Numbers, Held, Spells, Settleable, HandsOut, none, fits}
 use Rattle.schedule.proofs.Same.{reads-one, plan-one}
 use Rattle.schedule.proofs.Onward.{holds-planned}
 use Rattle.planner.proofs.Pairs.{pairs-held, pairs-loopless, spells-held}
@@ -88,7 +88,7 @@ module _ (starts deadlines pairs before : List ℕ) (s : Sound starts deadlines 
       }
 
   -- the last check
-  pub settles-judged : (row after : List ℕ) (r : Answer) → Settles starts deadlines before row after r →
+  pub settles-judged : (row after : List ℕ) (r : Answer) → HandsOut starts deadlines before row after r →
       Unless (Planned L → ⊥) (turned-down row 4 0) (Fitted L row) (record { answer = r; row = after })
   unfolding written
   settles-judged row after r (none x e w) = refused (λ p. x (plan-one 2 L (p .0) J (written L) (p .1) reads (p .2))) (λ i. record { answer = e i; row = w i })

@@ -1,4 +1,5 @@
 -- What the planner's private functions promise to each other. Nobody has to believe these: the public promises are proved from them.
+pub mod Sets
 pub mod Chains
 pub mod Tighten
 pub mod Tables

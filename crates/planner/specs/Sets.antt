@@ -1,18 +1,9 @@
 -- A set of jobs as a number of 64 bits.
 -- Assumes nothing.
 use Prim.Native.Nat.{ℕ, _/_, _%_, _^_}
-use mathlib.Core.Bool.{Bool, not, _&&_, _||_}
-use lib.Count.{trailingZeros}
+use mathlib.Core.Bool.{Bool}
 use lib.Dec.{eqb}
 
 -- job j is in the set where digit j is one (01, Tightened deadlines: "A set of jobs is 64 bits")
 unfoldable pub has : ℕ → ℕ → Bool
 has set j = eqb (set / 2 ^ j % 2) 1
-
--- the first job of a set that has one: as many as the zeros below its lowest one
-abbrev pub least : ℕ → ℕ
-least set = trailingZeros 64 set
-
--- job j is due, and (follows job i or starts late), and is not i (01, Code places: "count_ones of the due set and (followers or late starters), without job i")
-abbrev pub pressed : ℕ → ℕ → ℕ → ℕ → ℕ → Bool
-pressed due followers late i j = (has due j && (has followers j || has late j)) && not (eqb j i)

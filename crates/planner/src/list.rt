@@ -11,7 +11,7 @@ ghost use lib.Dec.{T, eqb};
 ghost use lib.ListN.{length, getD};
 ghost use Rattle.planner.specs.Sets.{has};
 ghost use Rattle.planner.specs.Judged.{Judges, Unsound, Unheld};
-ghost use Rattle.planner.specs.Inner.List.{First, Numbers, Held, Spells, Loops, Follows, Hands, Settleable, Settles};
+ghost use Rattle.planner.specs.Inner.List.{First, Numbers, Held, Spells, Loops, TakesIn, Hands, Settleable, HandsOut};
 
 // The list judged, and its latest times in the receiving row; a refusal leaves the row as it was.
 pub fn judge(starts: &[u16], deadlines: &[u16], pairs: &[u16], latest: &mut [u16]) -> Answer
@@ -137,7 +137,7 @@ fn closes(rows: &[u64; 64], a: JobIndex, b: JobIndex) -> bool
 // Job a before job b, unless that already follows.
 fn follow(size: usize, rows: &mut [u64; 64], a: JobIndex, b: JobIndex)
     requires { ⌜ (length (now rows) ≡ 64) × (size ≤ 64) × (a .0 < size) × (b .0 < size) × ((y : ℕ) → size ≤ y → T (has (getD (now rows) y 0) (b .0)) → ⊥) ⌝ }
-    ensures { λ _. ⌜ Follows (a .0) (b .0) (now (rows .entry)) (now (rows .exit)) ⌝ }
+    ensures { λ _. ⌜ TakesIn (a .0) (b .0) (now (rows .entry)) (now (rows .exit)) ⌝ }
 {
     let first = a.0;
     let second = b.0;
@@ -150,7 +150,7 @@ fn follow(size: usize, rows: &mut [u64; 64], a: JobIndex, b: JobIndex)
 // The last check: the latest times handed over, or refusal 4.
 fn settle(starts: &[u16], deadlines: &[u16], before: &[u64; 64], latest: &mut [u16]) -> Answer
     requires { ⌜ Settleable (now starts) (now deadlines) (now before) (now latest) ⌝ }
-    ensures { λ r. ⌜ Settles (now (starts .entry)) (now (deadlines .entry)) (now (before .entry)) (now (latest .entry)) (now (latest .exit)) r ⌝ }
+    ensures { λ r. ⌜ HandsOut (now (starts .entry)) (now (deadlines .entry)) (now (before .entry)) (now (latest .entry)) (now (latest .exit)) r ⌝ }
 {
     let size = starts.len();
     let mut start = [0u16; 64];

@@ -17,7 +17,7 @@ ghost use Rattle.planner.specs.Told.{row-in};
 ghost use Rattle.planner.specs.Inner.Chains.{joined-rows};
 ghost use Rattle.planner.specs.Inner.Tighten.{Tightenable, Tightens};
 ghost use Rattle.planner.specs.Inner.Tables.{Steps, Known};
-ghost use Rattle.planner.specs.Inner.Lower.{DueBy, DueAmong, AtD, Swept, Moves, Settles};
+ghost use Rattle.planner.specs.Inner.Lower.{Tabled, DueBy, DueAmong, AtD, Swept, Moves, Settles};
 
 // Which jobs moved; Shut where some job has no time left.
 enum Moved {
@@ -63,7 +63,7 @@ fn settled<'a>(
     rank: &'a [u8; 64],
     row: &mut [u16; 64],
 ) -> bool
-    requires { ⌜ (size ≤ 64) × (length (now row) ≡ 64) × ((k : ℕ) → k < size → getD (now order) k 0 < size) × Steps (now times) × ((i : ℕ) → i < size → getD (now rank) i 0 < 65) × ((i : ℕ) → i < size → getD (now row) i 0 < 65536) × ((J : Jobs) × (early : ℕ → ℕ) × (J .size ≡ size) × Known J early (now followers) (now times) (now late) (now rank)) ⌝ }
+    requires { ⌜ Tabled size (now order) (now followers) (now times) (now late) (now rank) (now row) ⌝ }
     ensures { λ r. ⌜ (length (now (row .exit)) ≡ 64) × ((J : Jobs) (early : ℕ → ℕ) → J .size ≡ size → Known J early (now (followers .entry)) (now (times .entry)) (now (late .entry)) (now (rank .entry)) → Settles J early (now (row .entry)) (now (row .exit)) r) ⌝ }
 {
     loop {
@@ -90,7 +90,7 @@ fn pass<'a>(
     rank: &'a [u8; 64],
     row: &mut [u16; 64],
 ) -> Moved
-    requires { ⌜ (size ≤ 64) × (length (now row) ≡ 64) × ((k : ℕ) → k < size → getD (now order) k 0 < size) × Steps (now times) × ((i : ℕ) → i < size → getD (now rank) i 0 < 65) × ((i : ℕ) → i < size → getD (now row) i 0 < 65536) × ((J : Jobs) × (early : ℕ → ℕ) × (J .size ≡ size) × Known J early (now followers) (now times) (now late) (now rank)) ⌝ }
+    requires { ⌜ Tabled size (now order) (now followers) (now times) (now late) (now rank) (now row) ⌝ }
     ensures { λ r. ⌜ (length (now (row .exit)) ≡ 64) × ((J : Jobs) (early : ℕ → ℕ) → J .size ≡ size → Known J early (now (followers .entry)) (now (times .entry)) (now (late .entry)) (now (rank .entry)) → Moves J early (now (row .entry)) (now (row .exit)) (Swept J early (row-in (now (row .entry)))) r) ⌝ }
 {
     let mut all: u64 = 0;

@@ -1,8 +1,7 @@
 -- How document 01's example is written, from the values that it shows; and lines that it does not show.
 -- Assumes nothing.
-use mathlib.Core.List.{List, [], _∷_, _++_}
+use mathlib.Core.List.{[], _∷_, _++_}
 use mathlib.Core.Path.{_≡_, refl}
-use Prim.Native.Nat.{ℕ}
 use Rattle.report.specs.Text.{word, digits, decimal, each}
 use Rattle.report.specs.Line.{stopped-line, jobs-line, job-line}
 use Rattle.report.specs.Listing.{refused-lines, slot-lines}

@@ -1,6 +1,6 @@
 -- What a whole file read gives the listing: the numbers in front of the bytes lent, and the last step.
 -- Assumes nothing.
-use mathlib.Core.List.{List, [], _∷_, _++_}
+use mathlib.Core.List.{List}
 use mathlib.Core.Path.{_≡_, refl, ap, ap₂, _∙_}
 use Prim.Native.Nat.{ℕ, _+_, _*_, _/_, _≤_}
 use native.Mathlib.Omega.{arith}
@@ -8,7 +8,8 @@ use lib.ListN.{length, take, drop, length-append, length-drop}
 use lib.Seq.{take-at}
 use Rattle.planner.specs.declared.book.Book.{Book}
 use Rattle.planner.specs.declared.refusal.Answer.{Answer}
-use Rattle.planner.specs.Unless.{Unless, refused, passed}
+use Rattle.planner.specs.Unless.{refused, passed}
+use Rattle.planner.proofs.Judged.{unless-free}
 use Rattle.jobfile.specs.declared.record.Asked.{Asked}
 use Rattle.jobfile.specs.declared.record.Asked.the-variants.{Known, Unknown}
 use Rattle.jobfile.specs.declared.reader.Event.the-variants as event
@@ -59,12 +60,7 @@ whole-gathered file k old new r h i w =
       long = ap length front;
     }
 
--- a check that finds no fault
-through : {A : Type 0} (fault : Type 0) (refusal : A) (next : A → Type 0) (r : A) → (fault → ⊥) → Unless fault refusal next r → next r
-through fault refusal next r f (refused x e) = absurd (f x)
-through fault refusal next r f (passed x y) = y
-
 pub gathered : (file : List ℕ) (k : Book) (old new : List ℕ) (r : Step) → length file ≤ 24576 → length old ≡ 4096 → length new ≡ 4096 →
     ReadsFile k file old new r → Gathered file k r new
 gathered file k old new r h i j x =
-    whole-gathered file k old new r i j (through {A = Step × List ℕ} _ _ _ (r, new) (λ short. omega (arith, short .1)) (x .outcome))
+    whole-gathered file k old new r i j (unless-free {A = Step × List ℕ} _ _ _ (r, new) (λ short. omega (arith, short .1)) (x .outcome))

@@ -1,8 +1,8 @@
 -- What the planner promises of a book's plan, as the listing uses it.
 -- Assumes nothing.
 use mathlib.Core.List.{List, _++_}
-use mathlib.Core.Path.{_≡_, refl, ap, sym, _∙_}
-use Prim.Native.Nat.{ℕ, _+_, _*_, _≤_, _<_}
+use mathlib.Core.Path.{_≡_, ap}
+use Prim.Native.Nat.{ℕ, _*_, _≤_, _<_}
 use native.Mathlib.Omega.{arith}
 use lib.ListN.{length, take, drop, length-append}
 use lib.Seq.{take-at}
@@ -13,7 +13,7 @@ use Rattle.planner.specs.declared.refusal.Answer.the-variants.{Accepted}
 use Rattle.planner.specs.declared.refusal.Placed.{Placed}
 use Rattle.planner.specs.declared.refusal.Placed.the-variants.{At}
 use Rattle.planner.specs.Told.{jobs-of, latest-of, Made}
-use Rattle.planner.specs.Unless.{Unless, refused, passed}
+use Rattle.planner.specs.Unless.{refused, passed}
 use Rattle.planner.specs.Planned.{finish-of, bytes-of, Plans, place-of, Places}
 use Rattle.planner.proofs.Handed.{finish-fits}
 

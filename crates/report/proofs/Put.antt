@@ -1,12 +1,12 @@
 -- Texts written one behind the other are one text written.
 -- Assumes nothing.
 use mathlib.Core.List.{List, [], _∷_, _++_, append-assoc, append-nil}
-use mathlib.Core.Path.{_≡_, refl, sym, ap, _∙_}
-use Prim.Native.Nat.{ℕ, suc, _+_, _≤_, _<_}
+use mathlib.Core.Path.{_≡_, refl, ap, _∙_}
+use Prim.Native.Nat.{ℕ, _+_, _≤_, _<_}
 use native.Mathlib.Numerals.{add-one}
 use native.Mathlib.Omega.{arith}
 use lib.ListN.{length, take, drop, set, length-append, length-take, length-drop, take-append-drop}
-use lib.Seq.{append-snoc, set-split, take-at, drop-at, drop-drop, drop-append-add, length-take-le}
+use lib.Seq.{append-snoc, set-split, take-at, drop-drop, drop-append-add}
 use Rattle.report.specs.Listing.{Listing, Lists}
 use Rattle.report.specs.Inner.Put.{Room, Puts}
 

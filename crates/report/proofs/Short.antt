@@ -1,16 +1,15 @@
 -- How long a listing can be.
 -- Assumes nothing.
 use mathlib.Core.Bool.{Bool, true, false, cond, _&&_}
-use mathlib.Core.List.{List, [], _∷_, _++_}
+use mathlib.Core.List.{List}
 use mathlib.Core.Logic.{⊎-elim}
-use mathlib.Core.Path.{_≡_, refl}
-use Prim.Native.Nat.{ℕ, zero, suc, _+_, _*_, _/_, _%_, _^_, _≤_, _<_}
+use Prim.Native.Nat.{ℕ, zero, suc, _+_, _*_, _/_, _^_, _≤_, _<_}
 use native.Mathlib.Nat.{pow-suc, suc-mul}
 use native.Mathlib.Omega.{arith}
 use lib.Dec.{eqb}
 use lib.ListN.{length, getD, length-append}
 use Rattle.schedule.proofs.Tests.{le-or-lt}
-use Rattle.report.specs.Text.{word, decimal, joined, each}
+use Rattle.report.specs.Text.{decimal, each}
 use Rattle.report.specs.Line.{refused-line, stopped-line, jobs-line, core, slot-line, job-line}
 use Rattle.report.specs.Listing.{refused-lines, slot-lines, job-text, job-lines}
 use Rattle.planner.specs.declared.book.Book.{Book}

@@ -9,14 +9,14 @@ use native.Mathlib.Omega.{arith}
 use Rattle.schedule.specs.Row.{put}
 use Rattle.schedule.specs.Jobs.{Jobs}
 use Rattle.schedule.specs.Plan.{Valid, Meets, HasPlan}
-use Rattle.schedule.specs.Times.{Earliest, N, up, Consistent, Breach, left, Beneath, HasRow, Latest, Full, Open}
+use Rattle.schedule.specs.Times.{Earliest, Consistent, Breach, left, Beneath, HasRow, Latest, Full, Open}
 use Rattle.schedule.proofs.Tests.{le-by}
 use Rattle.schedule.proofs.Search.{decAny}
 use Rattle.schedule.proofs.Rows.{sum, put-le, put-falls}
 use Rattle.schedule.proofs.Press.{N-bound}
 use Rattle.schedule.proofs.Round.{unbroken, decBreach}
 use Rattle.schedule.proofs.Sound.{valid-above}
-use Rattle.schedule.proofs.Lower.{plan-under, row-under, lower-meets, lower-above, left-less}
+use Rattle.schedule.proofs.Lower.{lower-meets, lower-above, left-less}
 
 -- neither a consistent row beneath the deadlines nor a plan that meets them
 pub record Hopeless (m : ℕ) (J : Jobs) (early due : ℕ → ℕ) : Type 0 where
@@ -61,13 +61,6 @@ module _ (m : ℕ) (J : Jobs) (early due : ℕ → ℕ) (e : Earliest J early) (
       beneath = λ j l. le-trans (put-le row i (left m J early row i s d) j (omega (arith, left-less m pos J early row i s d h (omega arith)))) (b .beneath j l);
       plans = λ slot w k. lower-meets m pos J early row i s d h e slot w (b .plans slot w k);
       rows = λ low c x. lower-above m pos J early row i s d h low c (b .rows low c x);
-    }
-
-    -- a breach that leaves less than nothing: no row and no plan
-    pub bound-full : (i s d : ℕ) → Breach m J early row i s d → d < up m (N J early row i s d) → Hopeless m J early due
-    bound-full i s d h past = record {
-      no-row = λ x. omega (arith, row-under m pos J early row i s d h (x .0) (x .1) (b .rows (x .0) (x .1) (x .2)));
-      no-plan = λ p. omega (arith, plan-under m pos J early row i s d h e (p .0) (p .1) (b .plans (p .0) (p .1) (p .2)));
     }
 
     -- no slot beyond s + size is full

@@ -1,12 +1,11 @@
 -- The reader of a text with counts in place of lists of words.
 -- Assumes nothing.
-use mathlib.Core.Bool.{Bool, true, false, cond, _&&_}
+use mathlib.Core.Bool.{true, false, cond}
 use Prim.Native.Nat.{ℕ, _+_, _-_, _*_}
 use lib.Dec.{eqb, leb}
 use Rattle.keying.specs.Text.{digit, blank, known}
 use Rattle.keying.specs.declared.word.Word.{Word}
 use Rattle.keying.specs.declared.entry.Entry.{Entry}
-use Rattle.keying.specs.declared.entry.Record.{Record}
 use Rattle.keying.specs.declared.entry.Slip.the-variants.{UnknownWord, MissingField, ExtraField, NotNumber, TooLarge}
 use Rattle.keying.specs.declared.entry.Said.{Said}
 use Rattle.keying.specs.declared.entry.Said.the-variants.{Nothing, Told, Wrong}

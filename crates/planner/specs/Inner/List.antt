@@ -43,8 +43,8 @@ pub record Loops (pairs rows : List ℕ) (r : ℕ) : Type 0 where
   pub spells : Spells pairs r rows
 
 -- a before b already follows, or is taken in
-abbrev pub Follows : ℕ → ℕ → List ℕ → List ℕ → Type 0
-Follows a b old new = (T (has (getD old b 0) a) × (new ≡ old)) ⊎ ((length new ≡ 64) × Links a b old new)
+abbrev pub TakesIn : ℕ → ℕ → List ℕ → List ℕ → Type 0
+TakesIn a b old new = (T (has (getD old b 0) a) × (new ≡ old)) ⊎ ((length new ≡ 64) × Links a b old new)
 
 -- the first entries of a row, and the rest as it was
 pub record Hands (size : ℕ) (times row after : List ℕ) : Type 0 where
@@ -65,7 +65,7 @@ pub record Settleable (starts deadlines before row : List ℕ) : Type 0 where
   pub held : (a b : ℕ) → T (has (getD before b 0) a) → (a < length starts) × (b < length starts)
 
 -- the latest times handed out, or refusal 4 and the row as it was
-pub data Settles (starts deadlines before row after : List ℕ) (r : Answer) : Type 0 where
-  none : (HasPlan 2 (jobs-in (length starts) starts before) (row-in deadlines) → ⊥) → r ≡ Refused 4 0 → after ≡ row → Settles starts deadlines before row after r
+pub data HandsOut (starts deadlines before row after : List ℕ) (r : Answer) : Type 0 where
+  none : (HasPlan 2 (jobs-in (length starts) starts before) (row-in deadlines) → ⊥) → r ≡ Refused 4 0 → after ≡ row → HandsOut starts deadlines before row after r
   fits : (times : List ℕ) → ((early : ℕ → ℕ) → Earliest (jobs-in (length starts) starts before) early → Latest 2 (jobs-in (length starts) starts before) early (row-in deadlines) (row-in times)) →
-      r ≡ Accepted 0 → Hands (length starts) times row after → Settles starts deadlines before row after r
+      r ≡ Accepted 0 → Hands (length starts) times row after → HandsOut starts deadlines before row after r

@@ -6,7 +6,7 @@ use mathlib.Core.Logic.{_⊎_}
 use mathlib.Core.Path.{_≡_}
 use Prim.Native.Nat.{ℕ, _+_, _-_, _*_, _≤_, _<_}
 use lib.Dec.{T, leb, ltb}
-use lib.ListN.{getD}
+use lib.ListN.{length, getD}
 use Rattle.schedule.specs.Jobs.{Jobs}
 use Rattle.schedule.specs.Row.{put}
 use Rattle.schedule.specs.Plan.{HasPlan}
@@ -17,7 +17,17 @@ use Rattle.planner.specs.declared.tighten.Moved.the-variants.{Jobs as Th
 use Rattle.planner.specs.declared.tighten.Due.{Due}
 use Rattle.planner.specs.Sets.{has}
 use Rattle.planner.specs.Told.{row-in}
-use Rattle.planner.specs.Inner.Tables.{Levels}
+use Rattle.planner.specs.Inner.Tables.{Steps, Levels, Known}
+
+-- a row with the tables of its jobs: each in its limits, and some jobs have these tables
+pub record Tabled (size : ℕ) (order followers times late rank row : List ℕ) : Type 0 where
+  pub few : size ≤ 64
+  pub long : length row ≡ 64
+  pub jobs : (k : ℕ) → k < size → getD order k 0 < size
+  pub steps : Steps times
+  pub ranks : (i : ℕ) → i < size → getD rank i 0 < 65
+  pub low : (i : ℕ) → i < size → getD row i 0 < 65536
+  pub known : (J : Jobs) × (early : ℕ → ℕ) × (J .size ≡ size) × Known J early followers times late rank
 
 -- the jobs of the row that are due by d
 abbrev pub DueBy : ℕ → (ℕ → ℕ) → ℕ → ℕ → Type 0
@@ -87,12 +97,6 @@ Swept J early row = (k : ℕ) → k < J .size → AtD J early row (row k)
 -- the jobs of a set whose time is below a limit, and the greatest such time
 pub record DueAmong (limit among : ℕ) (row : List ℕ) (r : Due) : Type 0 where
   pub jobs : (j : ℕ) → has (r .jobs) j ≡ (has among j && ltb (getD row j 0) limit)
-  pub top : (j : ℕ) → T (has (r .jobs) j) → getD row j 0 ≤ r .d
-  pub some : (r .jobs ≡ 0 → ⊥) → r .d < limit
-
--- the same of all jobs of the row
-pub record DueBelow (limit size : ℕ) (row : List ℕ) (r : Due) : Type 0 where
-  pub jobs : (j : ℕ) → has (r .jobs) j ≡ (ltb j size && ltb (getD row j 0) limit)
   pub top : (j : ℕ) → T (has (r .jobs) j) → getD row j 0 ≤ r .d
   pub some : (r .jobs ≡ 0 → ⊥) → r .d < limit
 

@@ -1,8 +1,7 @@
 -- `report::listing` meets its contract: the file too long, or its records read, and then the parts one behind the other.
 -- Assumes nothing.
 use mathlib.Core.List.{_++_}
-use mathlib.Core.Path.{_≡_, refl, sym}
-use Prim.Native.Nat.{ℕ}
+use mathlib.Core.Path.{refl}
 use native.Mathlib.Omega.{arith}
 use borrow.Author.Needs.{needs}
 use Rattle.planner.specs.Unless.{refused, passed}

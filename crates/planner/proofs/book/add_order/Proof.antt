@@ -1,10 +1,16 @@
 -- `planner::book::add_order` meets its contract.
 -- Assumes nothing.
 use mathlib.Core.Path.{refl, sym, _∙_}
-use mathlib.Core.Logic.{inl, inr, ⊎-elim}
+use mathlib.Core.Logic.{inl, inr}
 use native.Mathlib.Omega.{arith}
+use Rattle.schedule.specs.Listed.{Listed, with-order}
+use Rattle.planner.specs.declared.book.Applied.{Applied}
+use Rattle.planner.specs.declared.book.Request.the-variants.{Before}
+use Rattle.planner.specs.Told.{held, Told}
 use Rattle.planner.specs.Unless.{refused, passed}
-use Rattle.planner.proofs.Step.{false-T, true-T, size-is, order-back, order-free, followed-told, grows-ready, told-judged, fits-judged, none-judged}
+use Rattle.planner.specs.Outcome.{Judged, Outcome}
+use Rattle.planner.specs.Inner.Chains.{joined-rows}
+use Rattle.planner.proofs.Step.{Grows, false-T, true-T, size-is, order-held, order-back, order-free, followed-told, grows-ready, told-judged, fits-judged, none-judged}
 use Rattle.planner.proofs.Join.{joined-grows}
 use borrow.Author.Needs.{needs}
 use Rattle.planner.proofs.book.add_order.Statement.{statement}
@@ -17,7 +23,7 @@ returns-2 : tie.Need-returns-2
 returns-2 c = λ L t. refused (inr (omega (arith, size-is L _ t))) refl
 
 returns-3 : tie.Need-returns-3
-returns-3 c = λ L t. passed (λ f. ⊎-elim (λ x. omega (arith, size-is L _ t)) (λ x. omega (arith, size-is L _ t)) f) (refused (inl (omega arith)) refl)
+returns-3 c = λ L t. passed (order-held L _ t _ _ (omega arith) (omega arith)) (refused (inl (omega arith)) refl)
 
 mul-has : tie.Need-mul-has
 mul-has c = search needs
@@ -29,7 +35,7 @@ has-requires : tie.Need-has-requires
 has-requires c κs = search needs
 
 returns-4 : tie.Need-returns-4
-returns-4 c = λ L t. passed (λ f. ⊎-elim (λ x. omega (arith, size-is L _ t)) (λ x. omega (arith, size-is L _ t)) f) (refused (inr (order-back L _ t _ _ (omega arith) (omega arith) (sym (c .before .has .ensures) ∙ c .if4 .taken))) refl)
+returns-4 c = λ L t. passed (order-held L _ t _ _ (omega arith) (omega arith)) (refused (inr (order-back L _ t _ _ (omega arith) (omega arith) (sym (c .before .has .ensures) ∙ c .if4 .taken))) refl)
 
 mul-has-2 : tie.Need-mul-has-2
 mul-has-2 c = search needs
@@ -40,12 +46,19 @@ element-copy-out-has-2 c = search needs
 has-requires-2 : tie.Need-has-requires-2
 has-requires-2 c κs = search needs
 
+-- an order that passes its checks is judged by the deadlines
+checked : (c : tie.After-has2) (L : Listed) →
+    let a = c .before .before .before .before .before .before .before .before .args in
+    let k = held (a .size) (a .start .now) (a .latest .now) (a .before .now) in
+    Told k L → (r : Applied) → Judged (with-order L (a .first .0) (a .second .0)) 0 k r → Outcome L k (Before (a .first) (a .second)) r
+checked c L t r j =
+    let free = c .before .before in
+    passed (order-held L _ t _ _ (omega arith) (omega arith))
+    (passed (order-free L _ t _ _ (omega arith) (omega arith) (free .before .before .before .if3 .left) (sym (free .before .has .ensures) ∙ free .if4 .left)) j)
+
 returns-5 : tie.Need-returns-5
 returns-5 c = λ L t.
-    let free = c .before .before .before in
-    passed (λ f. ⊎-elim (λ x. omega (arith, size-is L _ t)) (λ x. omega (arith, size-is L _ t)) f)
-    (passed (order-free L _ t _ _ (omega arith) (omega arith) (free .before .before .before .if3 .left) (sym (free .before .has .ensures) ∙ free .if4 .left))
-    (told-judged _ _ _ _ refl (followed-told L _ t _ _ (omega arith) (omega arith) (true-T _ (sym (c .before .has2 .ensures) ∙ c .if5 .taken)))))
+    checked (c .before) L t _ (told-judged _ _ _ _ refl (followed-told L _ t _ _ (omega arith) (omega arith) (true-T _ (sym (c .before .has2 .ensures) ∙ c .if5 .taken))))
 
 mul-with : tie.Need-mul-with
 mul-with c = search needs
@@ -56,17 +69,20 @@ element-copy-out-with c = search needs
 with-requires : tie.Need-with-requires
 with-requires c κs = search needs
 
+-- the book with the order, before its times are settled
+grown : (c : tie.After-with) (L : Listed) →
+    let a = c .before .before .before .before .before .before .before .before .before .before .before .args in
+    Told (held (a .size) (a .start .now) (a .latest .now) (a .before .now)) L →
+    Grows (with-order L (a .first .0) (a .second .0)) (held (a .size) (a .start .now) (a .latest .now) (joined-rows (a .before .now) (a .second .0) (c .with .result)))
+grown c L t =
+    let free = c .before .before .before .before .before in
+    joined-grows L _ t _ _ (omega arith) (omega arith) _ (c .with .ensures) (free .before .before .before .if3 .left) (false-T _ (sym (free .before .has .ensures) ∙ free .if4 .left))
+
 tighten-requires : tie.Need-tighten-requires
 tighten-requires c κs =
     let w = c .before .before .before in
-    let free = w .before .before .before .before .before in
-    let apart = free .before .before .before in
-    let start = apart .before .before .before in (
-      omega arith,
-      grows-ready _ _
-          (joined-grows (start .pre .0) _ (start .pre .1) _ _ (omega arith) (omega arith) _ (w .with .ensures) (apart .if3 .left)
-          (false-T _ (sym (free .before .has .ensures) ∙ free .if4 .left))),
-    )
+    let made = w .before .before .before .before .before .before .before .before .before .before .before .pre in
+    (omega arith, grows-ready _ _ (grown w (made .0) (made .1)))
 
 link-requires : tie.Need-link-requires
 link-requires c κs =
@@ -77,23 +93,12 @@ link-requires c κs =
 returns-6 : tie.Need-returns-6
 returns-6 c = λ L t.
     let w = c .before .before .before .before .before .before .before in
-    let free = w .before .before .before .before .before in
-    let apart = free .before .before .before .if3 .left in
-    let no-loop = sym (free .before .has .ensures) ∙ free .if4 .left in
-    rw (c .link .ensures)
-    (passed (λ f. ⊎-elim (λ x. omega (arith, size-is L _ t)) (λ x. omega (arith, size-is L _ t)) f)
-    (passed (order-free L _ t _ _ (omega arith) (omega arith) apart no-loop)
-    (fits-judged _ _ _ _ _ _ (joined-grows L _ t _ _ (omega arith) (omega arith) _ (w .with .ensures) apart (false-T _ no-loop)) (c .before .before .before .tighten .ensures) _ refl (c .before .before .if6 .taken))))
+    rw (c .link .ensures) (checked (w .before .before .before) L t _ (fits-judged _ _ _ _ _ _ (grown w L t) (c .before .before .before .tighten .ensures) _ refl (c .before .before .if6 .taken)))
 
 returns-7 : tie.Need-returns-7
 returns-7 c = λ L t.
     let w = c .before .before .before .before .before in
-    let free = w .before .before .before .before .before in
-    let apart = free .before .before .before .if3 .left in
-    let no-loop = sym (free .before .has .ensures) ∙ free .if4 .left in
-    passed (λ f. ⊎-elim (λ x. omega (arith, size-is L _ t)) (λ x. omega (arith, size-is L _ t)) f)
-    (passed (order-free L _ t _ _ (omega arith) (omega arith) apart no-loop)
-    (none-judged _ _ _ _ _ _ (joined-grows L _ t _ _ (omega arith) (omega arith) _ (w .with .ensures) apart (false-T _ no-loop)) (c .before .tighten .ensures) _ refl (c .if6 .left)))
+    checked (w .before .before .before) L t _ (none-judged _ _ _ _ _ _ (grown w L t) (c .before .tighten .ensures) _ refl (c .if6 .left))
 
 pub add-order-spec : {M : Type 1} → statement M
 add-order-spec =

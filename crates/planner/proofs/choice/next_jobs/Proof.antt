@@ -1,16 +1,13 @@
 -- `planner::choice::next_jobs` meets its contract. The invariant: `first` and `second` are the choice among the jobs passed, `least` and `later` their latest times, `rest` the jobs left beyond.
 -- Assumes nothing.
-use mathlib.Core.Bool.{not, _&&_}
 use mathlib.Core.Logic.{⊎-elim}
-use mathlib.Core.Path.{_≡_, sym, _∙_}
-use Prim.Native.Nat.{ℕ}
+use mathlib.Core.Path.{sym, _∙_}
 use native.Mathlib.Omega.{arith}
 use borrow.Author.Needs.{needs}
-use lib.Dec.{eqb}
 use Rattle.schedule.specs.Count.{count}
 use Rattle.planner.specs.Sets.{has}
 use Rattle.planner.proofs.Best.{Walked, walked-none, walked-all, walked-on}
-use Rattle.planner.proofs.Bits.{rest-walk, walk-less}
+use Rattle.planner.proofs.Bits.{rest-walk, rest-less}
 use Rattle.planner.proofs.choice.next_jobs.Statement.{statement}
 use Rattle.planner.proofs.choice.next_jobs.Tie as tie
 
@@ -53,15 +50,10 @@ wide-requires c κs = search needs
 rest-requires : tie.Need-rest-requires Inv-loop μ-loop
 rest-requires c κs = search needs
 
--- the rest without the job met
-less : (c : tie.After-rest Inv-loop μ-loop) → (j : ℕ) →
-    has (c .rest .result) j ≡ (has (c .before .before .before .before .before .before .before .loop .rest) j && not (eqb j (c .before .before .before .before .before .first .result .0)))
-less c = rest-walk _ _ _ (c .before .before .before .before .before .first .ensures .3) (c .rest .ensures)
-
 loop-less : tie.Need-loop-less Inv-loop μ-loop
 loop-less c =
     let f = c .before .before .before .before .before .first in
-    walk-less (c .before .before .before .before .before .before .before .loop .rest) (c .rest .result) (f .result .0) (less c) (f .ensures .0) (f .ensures .1)
+    rest-less _ _ _ (f .ensures .0) (f .ensures .1) (f .ensures .3) (c .rest .ensures)
 
 loop-again : tie.Need-loop-again Inv-loop μ-loop
 loop-again c =
@@ -71,7 +63,7 @@ loop-again c =
     let f = c .before .before .before .before .before .first in
     let r = c .before .before .ready in
     let on = walked-on (a .size) (a .latest .now) (a .start .now) (a .before .now) (a .left) (a .t .0) (l .rest) (l .first) (l .least) (l .second) (l .later) (l .inv)
-    (p .before .pre .1) (f .result .0) (c .rest .result) (f .ensures .1) (f .ensures .2) (less c) in
+    (p .before .pre .1) (f .result .0) (c .rest .result) (f .ensures .1) (f .ensures .2) (rest-walk _ _ _ (f .ensures .3) (c .rest .ensures)) in
     ⊎-elim
     (λ w. rw (w .4, w .5, w .6, w .7, w .2 .ensures .0) (on .ahead (sym (w .0 .taken) ∙ r .ensures) (omega (arith, w .3 .taken, w .2 .ensures .0))))
     (⊎-elim

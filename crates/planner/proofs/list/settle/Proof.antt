@@ -21,8 +21,10 @@ hand-over-requires-2 c κs = search needs
 
 tighten-requires : tie.Need-tighten-requires
 tighten-requires c κs =
-    let start = c .before .before .before .before .before .before .before .before .before .before .before in
-    (omega arith, unjoined-ready _ _ _ _ _ (start .pre .rows) (hands-tightenable _ _ _ _ _ _ (start .pre) (c .before .before .before .before .before .before .hand-over .ensures) (c .before .before .before .hand-over2 .ensures)))
+    let second = c .before .before .before in
+    let first = second .before .before .before in
+    let s = first .before .before .before .before .before .pre in
+    (omega arith, unjoined-ready _ _ _ _ _ (s .rows) (hands-tightenable _ _ _ _ _ _ s (first .hand-over .ensures) (second .hand-over2 .ensures)))
 
 slice-aggregate-hand-over-3 : tie.Need-slice-aggregate-hand-over-3
 slice-aggregate-hand-over-3 c = search needs
@@ -36,16 +38,20 @@ same-length c = search needs
 returns : tie.Need-returns
 returns c =
     let t = c .before .before .before .before .before .before in
-    let start = t .before .before .before .before .before .before .before .before .before .before .before .before in
-    settles-fits _ _ _ _ _ _ (start .pre) (t .before .before .before .before .before .before .before .hand-over .ensures) (t .before .before .before .before .hand-over2 .ensures) _ _
-    (unjoined-tight _ _ _ _ _ _ _ (start .pre .rows) (t .tighten .ensures)) _ (c .before .before .before .before .before .if1 .taken) (c .before .before .hand-over3 .ensures)
+    let second = t .before .before .before .before in
+    let first = second .before .before .before in
+    let s = first .before .before .before .before .before .pre in
+    settles-fits _ _ _ _ _ _ s (first .hand-over .ensures) (second .hand-over2 .ensures) _ _
+    (unjoined-tight _ _ _ _ _ _ _ (s .rows) (t .tighten .ensures)) _ (c .before .before .before .before .before .if1 .taken) (c .before .before .hand-over3 .ensures)
 
 returns-2 : tie.Need-returns-2
 returns-2 c =
     let t = c .before in
-    let start = t .before .before .before .before .before .before .before .before .before .before .before .before in
-    settles-none _ _ _ _ _ _ (start .pre) (t .before .before .before .before .before .before .before .hand-over .ensures) (t .before .before .before .before .hand-over2 .ensures) _ _
-    (unjoined-tight _ _ _ _ _ _ _ (start .pre .rows) (t .tighten .ensures)) (c .if1 .left)
+    let second = t .before .before .before .before in
+    let first = second .before .before .before in
+    let s = first .before .before .before .before .before .pre in
+    settles-none _ _ _ _ _ _ s (first .hand-over .ensures) (second .hand-over2 .ensures) _ _
+    (unjoined-tight _ _ _ _ _ _ _ (s .rows) (t .tighten .ensures)) (c .if1 .left)
 
 pub settle-spec : {M : Type 1} → statement M
 settle-spec =

@@ -4,7 +4,7 @@ use mathlib.Core.Logic.{⊎-elim}
 use native.Mathlib.Omega.{arith}
 use Rattle.schedule.specs.Count.{count}
 use Rattle.planner.specs.Sets.{has}
-use Rattle.planner.proofs.Bits.{rest-walk, walk-less}
+use Rattle.planner.proofs.Bits.{rest-walk, rest-less}
 use Rattle.planner.proofs.TightenDue.{Gathered, gathered-none, gathered-more, gathered-same, gathered-low, gathered-due}
 use borrow.Author.Needs.{needs}
 use Rattle.planner.proofs.tighten.due_below.Statement.{statement}
@@ -40,24 +40,23 @@ rest-requires c κs = search needs
 loop-less : tie.Need-loop-less Inv-loop μ-loop
 loop-less c =
     let f = c .before .before .before .before .first in
-    walk-less (c .before .before .before .before .before .before .loop .rest) (c .rest .result) (f .result .0) (rest-walk _ _ _ (f .ensures .3) (c .rest .ensures)) (f .ensures .0) (f .ensures .1)
+    rest-less _ _ _ (f .ensures .0) (f .ensures .1) (f .ensures .3) (c .rest .ensures)
 
 loop-again : tie.Need-loop-again Inv-loop μ-loop
 loop-again c =
     let p = c .before .before .before .before .before .before in
-    let a = p .before .args in
     let f = c .before .before .before .before .first in
     let r = rest-walk (p .loop .rest) (c .rest .result) (f .result .0) (f .ensures .3) (c .rest .ensures) in
     let t = c .before .before .wide .ensures .0 in
     ⊎-elim
-    (λ w. rw (w .3, w .4) (gathered-more (a .limit) (a .among) (a .row .now) (p .loop .d) (p .loop .jobs) (p .loop .rest) (p .loop .inv) (f .result .0) (c .rest .result) r (f .ensures .1) _ (w .1 .result) (omega (arith, t, w .0 .taken)) (w .1 .ensures) (omega (arith, w .2 .taken)) (omega (arith, t)) (w .0 .taken)))
+    (λ w. rw (w .3, w .4) (gathered-more (p .loop .inv) _ _ r (f .ensures .1) _ _ (omega (arith, t, w .0 .taken)) (w .1 .ensures) (omega (arith, w .2 .taken)) (omega (arith, t)) (w .0 .taken)))
     (⊎-elim
-    (λ w. rw (w .3, w .4) (gathered-more (a .limit) (a .among) (a .row .now) (p .loop .d) (p .loop .jobs) (p .loop .rest) (p .loop .inv) (f .result .0) (c .rest .result) r (f .ensures .1) _ (w .1 .result) (omega (arith, t, w .0 .taken)) (w .1 .ensures) (omega arith) (omega (arith, t, w .2 .left)) (gathered-low (a .limit) (a .among) (a .row .now) (p .loop .d) (p .loop .jobs) (p .loop .rest) (p .loop .inv) (f .result .0) (omega (arith, t, w .0 .taken)))))
-    (λ w. rw (w .1, w .2) (gathered-same (a .limit) (a .among) (a .row .now) (p .loop .d) (p .loop .jobs) (p .loop .rest) (p .loop .inv) (f .result .0) (c .rest .result) r (f .ensures .1) (omega (arith, t, w .0 .left)))))
+    (λ w. rw (w .3, w .4) (gathered-more (p .loop .inv) _ _ r (f .ensures .1) _ _ (omega (arith, t, w .0 .taken)) (w .1 .ensures) (omega arith) (omega (arith, t, w .2 .left)) (gathered-low (p .loop .inv) (f .result .0) (omega (arith, t, w .0 .taken)))))
+    (λ w. rw (w .1, w .2) (gathered-same (p .loop .inv) _ _ r (f .ensures .1) (omega (arith, t, w .0 .left)))))
     (c .before .if1 .came)
 
 returns : tie.Need-returns Inv-loop μ-loop
-returns c = gathered-due _ _ _ _ _ _ (c .before .loop .inv) (c .loop-test .left)
+returns c = gathered-due (c .before .loop .inv) (c .loop-test .left)
 
 pub due-below-spec : {M : Type 1} → statement M
 due-below-spec =

@@ -13,23 +13,31 @@ use Rattle.schedule.specs.Jobs.{Jobs}
 use Rattle.planner.specs.Told.{row-in}
 use Rattle.planner.specs.Inner.Tables.{Known}
 use Rattle.planner.specs.Inner.Lower.{DueBy, Ruled}
-use Rattle.planner.proofs.Bits.{rest-walk, walk-less, walk-sub}
+use Rattle.planner.proofs.Bits.{rest-walk, rest-less, walk-sub}
 use Rattle.planner.proofs.TightenSink.{Lowering, lowering-start, lowering-moved, lowering-kept, lowering-moves, due-job, stored-low, sunk-none}
 use Rattle.planner.proofs.tighten.lower_at.Statement.{statement}
 use Rattle.planner.proofs.tighten.lower_at.Tie as tie
 
 abbrev Inv-loop : tie.InvT-loop
-Inv-loop d due followers times late rank row₀ moved₀ rest₀ row moved rest = (length row ≡ 64) × ((j : ℕ) → T (has rest j) → T (has due j)) × ((j : ℕ) → T (has due j) → getD row j 0 ≤ d) × ((J : Jobs) (early : ℕ → ℕ) → Known J early followers times late rank → DueBy (J .size) (row-in row₀) d due → Lowering J early row₀ row d due moved rest)
+Inv-loop d due followers times late rank row₀ moved₀ rest₀ row moved rest =
+    (length row ≡ 64)
+    × ((j : ℕ) → T (has rest j) → T (has due j))
+    × ((j : ℕ) → T (has due j) → getD row j 0 ≤ d)
+    × ((J : Jobs) (early : ℕ → ℕ) → Known J early followers times late rank → DueBy (J .size) (row-in row₀) d due → Lowering J early row₀ row d due moved rest)
 
 abbrev μ-loop : tie.MeasureT-loop
 μ-loop d due followers times late rank row₀ moved₀ rest₀ row moved rest = count 64 (has rest)
 
 in-due : (c : tie.After-lowered Inv-loop μ-loop) → T (has (c .before .before .before .before .before .before .before .before .args .due) (c .before .before .before .before .before .first .result .0))
-in-due c = c .before .before .before .before .before .before .before .loop .inv .1 (c .before .before .before .before .before .first .result .0) (c .before .before .before .before .before .first .ensures .1)
+in-due c = c .before .before .before .before .before .before .before .loop .inv .1 _ (c .before .before .before .before .before .first .ensures .1)
 
 -- what the rule leaves the job looked at
-ruled : (c : tie.After-lowered Inv-loop μ-loop) (J : Jobs) (early : ℕ → ℕ) → Known J early (c .before .before .before .before .before .before .before .before .args .followers .now) (c .before .before .before .before .before .before .before .before .args .times .now) (c .before .before .before .before .before .before .before .before .args .late .now) (c .before .before .before .before .before .before .before .before .args .rank .now) →
-    DueBy (J .size) (row-in (c .before .before .before .before .before .before .before .before .args .row .now)) (c .before .before .before .before .before .before .before .before .args .d) (c .before .before .before .before .before .before .before .before .args .due) → Ruled J early (row-in (c .before .before .before .before .before .before .before .loop .row)) (c .before .before .before .before .before .first .result .0) (c .before .before .before .before .before .before .before .before .args .d) (c .lowered .result)
+ruled : (c : tie.After-lowered Inv-loop μ-loop) (J : Jobs) (early : ℕ → ℕ) →
+    let i = c .before .before .before .before .before .first .result .0 in
+    let p = c .before .before .before .before .before .before .before in
+    let a = p .before .args in
+    Known J early (a .followers .now) (a .times .now) (a .late .now) (a .rank .now) → DueBy (J .size) (row-in (a .row .now)) (a .d) (a .due) →
+    Ruled J early (row-in (p .loop .row)) i (a .d) (c .lowered .result)
 ruled c J early k s =
     let p = c .before .before .before .before .before .before .before in
     let q = p .loop .inv .3 J early k s in
@@ -91,7 +99,7 @@ returns c =
       simp length-set (p .loop .inv .0),
       (λ J early k s.
           let q = p .loop .inv .3 J early k s in
-          sunk-none J early (p .before .args .row .now) (p .loop .row) i (c .before .lowered .result) (k .levels .few) (p .loop .inv .0) (q .sunk)
+          sunk-none (q .sunk) (k .levels .few) (p .loop .inv .0)
           (due-job (J .size) (row-in (p .loop .row)) (p .before .args .d) (p .before .args .due) (q .soon) i (in-due (c .before)) .0) (ruled (c .before) J early k s .eased) (c .if1 .taken)),
     )
 
@@ -104,7 +112,7 @@ rest-requires c κs = search needs
 loop-less : tie.Need-loop-less Inv-loop μ-loop
 loop-less c =
     let f = c .before .before .before .before .before .before .before .before .first in
-    walk-less (c .before .before .before .before .before .before .before .before .before .before .loop .rest) (c .rest .result) (f .result .0) (rest-walk _ _ _ (f .ensures .3) (c .rest .ensures)) (f .ensures .0) (f .ensures .1)
+    rest-less _ _ _ (f .ensures .0) (f .ensures .1) (f .ensures .3) (c .rest .ensures)
 
 loop-again : tie.Need-loop-again Inv-loop μ-loop
 loop-again c =
@@ -120,18 +128,15 @@ loop-again c =
       (λ j t. p .loop .inv .1 j (walk-sub (p .loop .rest) (c .rest .result) i w j t)),
       (λ j t. stored-low (p .loop .row) i (o .lowered .result) (a .d) (omega (arith, p .loop .inv .0, f .ensures .0)) (omega (arith, o .lowered .ensures .0, h, low)) j (p .loop .inv .2 j t)),
       (λ J early k s. ⊎-elim
-          (λ x. rw (x .2) (lowering-moved J early (a .row .now) (p .loop .row) (a .d) (a .due) (p .loop .moved) (p .loop .rest) (k .levels .few) (p .loop .inv .0) (p .loop .inv .3 J early k s)
-          i (c .rest .result) (o .lowered .result) (in-due o) w (ruled o J early k s) (c .before .before .if1 .left) (x .1 .result) (x .1 .ensures) (omega (arith, h, x .0 .taken))))
-          (λ x. rw (x .1) (lowering-kept J early (a .row .now) (p .loop .row) (a .d) (a .due) (p .loop .moved) (p .loop .rest) (k .levels .few) (p .loop .inv .0) (p .loop .inv .3 J early k s)
-          i (c .rest .result) (o .lowered .result) (in-due o) w (ruled o J early k s) (c .before .before .if1 .left) (omega (arith, h, x .0 .left))))
+          (λ x. rw (x .2) (lowering-moved (k .levels .few) (p .loop .inv .0) (p .loop .inv .3 J early k s) _ (in-due o) w (ruled o J early k s) (c .before .before .if1 .left) _ (x .1 .ensures) (omega (arith, h, x .0 .taken))))
+          (λ x. rw (x .1) (lowering-kept (k .levels .few) (p .loop .inv .0) (p .loop .inv .3 J early k s) _ (in-due o) w (ruled o J early k s) (c .before .before .if1 .left) (omega (arith, h, x .0 .left))))
           (c .before .if2 .came)),
     )
 
 returns-2 : tie.Need-returns-2 Inv-loop μ-loop
 returns-2 c =
     let p = c .before in
-    let a = p .before .args in
-    (p .loop .inv .0, (λ J early k s. lowering-moves J early (a .row .now) (p .loop .row) (a .d) (a .due) (p .loop .moved) (p .loop .rest) (k .levels .few) (p .loop .inv .0) (p .loop .inv .3 J early k s) s (c .loop-test .left)))
+    (p .loop .inv .0, (λ J early k s. lowering-moves (k .levels .few) (p .loop .inv .0) (p .loop .inv .3 J early k s) s (c .loop-test .left)))
 
 pub lower-at-spec : {M : Type 1} → statement M
 lower-at-spec =

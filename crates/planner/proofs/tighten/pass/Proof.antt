@@ -12,8 +12,8 @@ use Rattle.planner.specs.declared.tighten.Moved.{Moved}
 use Rattle.planner.specs.declared.tighten.Moved.the-variants.{Jobs as Those}
 use Rattle.planner.specs.Told.{row-in}
 use Rattle.planner.specs.Inner.Tables.{Known}
-use Rattle.planner.specs.Inner.Lower.{DueBelow, Moves, AtD}
-use Rattle.planner.proofs.TightenDue.{Among, among-start, among-next, due-all, due-by, below-job}
+use Rattle.planner.specs.Inner.Lower.{Moves, AtD}
+use Rattle.planner.proofs.TightenDue.{Among, DueBelow, among-start, among-next, due-all, due-by, below-job}
 use Rattle.planner.proofs.TightenSink.{Passing, passing-start, passing-still, passing-moved, passing-moves, none-join, or-some}
 use Rattle.planner.proofs.tighten.pass.Statement.{statement}
 use Rattle.planner.proofs.tighten.pass.Tie as tie
@@ -26,19 +26,23 @@ abbrev μ-loop : tie.MeasureT-loop
 μ-loop size order followers times late rank row₀ all₀ limit₀ among₀ row all limit among = limit
 
 -- the jobs below the limit, of all jobs
-below : (c : tie.After-due-below Inv-loop μ-loop) (n : ℕ) → n ≡ c .before .before .before .before .args .size → DueBelow (c .before .before .loop .limit) n (c .before .before .loop .row) (c .due-below .result)
-below c n e =
+below : (c : tie.After-due-below Inv-loop μ-loop) (n : ℕ) →
     let p = c .before .before in
-    rw e (due-all (p .loop .limit) (p .before .before .args .size) (p .loop .row) (p .loop .among) (c .due-below .result) (p .loop .inv .2) (c .due-below .ensures))
+    n ≡ p .before .before .args .size → DueBelow (p .loop .limit) n (p .loop .row) (c .due-below .result)
+below c n e = rw e (due-all _ _ _ _ _ (c .before .before .loop .inv .2) (c .due-below .ensures))
 
 -- what moved at this d
-moves : (c : tie.After-known-told Inv-loop μ-loop) (J : Jobs) (early : ℕ → ℕ) → J .size ≡ c .before .before .before .before .before .before .before .before .before .before .before .args .size → Known J early (c .before .before .before .before .before .before .before .before .before .before .before .args .followers .now) (c .before .before .before .before .before .before .before .before .before .before .before .args .times .now) (c .before .before .before .before .before .before .before .before .before .before .before .args .late .now) (c .before .before .before .before .before .before .before .before .before .before .before .args .rank .now) →
-    Moves J early (c .before .before .before .before .before .before .before .before .before .loop .row) (c .before .before .before .lower-at .last .1 .1 .1 .1 .1 .1 .0) (AtD J early (row-in (c .before .before .before .before .before .before .before .before .before .loop .row)) (c .before .before .before .before .before .before .before .due-below .result .d)) (Those (c .before .moved .given .0 .0))
+moves : (c : tie.After-known-told Inv-loop μ-loop) (J : Jobs) (early : ℕ → ℕ) →
+    let d = c .before .before .before .before .before .before .before .due-below .result .d in
+    let p = c .before .before .before .before .before .before .before .before .before in
+    let a = p .before .before .args in
+    J .size ≡ a .size → Known J early (a .followers .now) (a .times .now) (a .late .now) (a .rank .now) →
+    Moves J early (p .loop .row) (c .before .before .before .lower-at .last .1 .1 .1 .1 .1 .1 .0) (AtD J early (row-in (p .loop .row)) d) (Those (c .before .moved .given .0 .0))
 moves c J early e k =
     let p = c .before .before .before .before .before .before .before .before .before in
     let due = c .before .before .before .before .before .before .before .due-below in
     subst (λ (r : Moved). Moves J early (p .loop .row) (c .before .before .before .lower-at .last .1 .1 .1 .1 .1 .1 .0) (AtD J early (row-in (p .loop .row)) (due .result .d)) r) (c .before .moved .given .1)
-    (c .before .before .before .lower-at .ensures .1 J early k (due-by (p .loop .limit) (J .size) (p .loop .row) (due .result) (below (c .before .before .before .before .before .before .before) (J .size) e) (c .before .before .before .before .before .if1 .left)))
+    (c .before .before .before .lower-at .ensures .1 J early k (due-by _ _ _ _ (below (c .before .before .before .before .before .before .before) (J .size) e) (c .before .before .before .before .before .if1 .left)))
 
 below-requires : tie.Need-below-requires Inv-loop μ-loop
 below-requires c κs = search needs
@@ -46,7 +50,7 @@ below-requires c κs = search needs
 loop-holds : tie.Need-loop-holds Inv-loop μ-loop
 loop-holds c =
     let a = c .before .args in
-    (c .before .pre .1, search needs, among-start (a .size) 65536 (a .row .now) (c .below .result) (c .below .ensures), (λ J early e k. passing-start J early (a .row .now) 65536 (λ i l. c .before .pre .5 i (omega (arith, e)))))
+    (c .before .pre .long, search needs, among-start (a .size) 65536 (a .row .now) (c .below .result) (c .below .ensures), (λ J early e k. passing-start J early (a .row .now) 65536 (λ i l. c .before .pre .low i (omega (arith, e)))))
 
 due-below-requires : tie.Need-due-below-requires Inv-loop μ-loop
 due-below-requires c κs = search needs
@@ -54,16 +58,14 @@ due-below-requires c κs = search needs
 returns : tie.Need-returns Inv-loop μ-loop
 returns c =
     let p = c .before .before .before .before in
-    let a = p .before .before .args in
-    let due = c .before .before .due-below in
-    (p .loop .inv .0, (λ J early e k. passing-moves J early (a .row .now) (p .loop .row) (p .loop .all) (p .loop .limit) (p .loop .inv .3 J early e k) (due .result) (below (c .before .before) (J .size) e) (c .if1 .taken)))
+    (p .loop .inv .0, (λ J early e k. passing-moves (p .loop .inv .3 J early e k) (below (c .before .before) (J .size) e) (c .if1 .taken)))
 
 lower-at-requires : tie.Need-lower-at-requires Inv-loop μ-loop
 lower-at-requires c κs =
     let p = c .before .before .before .before .before in
     let s = p .before .before in
     let due = c .before .before .before .due-below in
-    (s .pre .3, p .loop .inv .0, (λ j t. (s .pre .4 j (below-job (p .loop .limit) (s .args .size) (p .loop .row) (due .result) (below (c .before .before .before) (s .args .size) refl) j t), due .ensures .top j t)), omega (arith, due .ensures .some (c .before .if1 .left), p .loop .inv .1))
+    (s .pre .steps, p .loop .inv .0, (λ j t. (s .pre .ranks j (below-job _ _ _ _ (below (c .before .before .before) (s .args .size) refl) j t), due .ensures .top j t)), omega (arith, due .ensures .some (c .before .if1 .left), p .loop .inv .1))
 
 enum-known-moved : tie.Need-enum-known-moved Inv-loop μ-loop
 enum-known-moved c = search needs
@@ -71,16 +73,15 @@ enum-known-moved c = search needs
 follow-requires : tie.Need-follow-requires Inv-loop μ-loop
 follow-requires c κs =
     let s = c .before .before .before .before .before .before .before .before .before .before .before .before .before in
-    (s .pre .0, c .before .before .before .before .before .lower-at .ensures .0, s .pre .2)
+    (s .pre .few, c .before .before .before .before .before .lower-at .ensures .0, s .pre .jobs)
 
 returns-2 : tie.Need-returns-2 Inv-loop μ-loop
 returns-2 c =
     let p = c .before .before .before .before .before .before .before .before .before .before .before .before .before in
-    let a = p .before .before .args in
     let o = c .before .before .before .before in (
       c .before .follow .ensures .0,
-      (λ J early e k. none-join J early (a .row .now) (p .loop .row) (p .loop .row) (p .loop .inv .3 J early e k .sunk)
-          (none-join J early (p .loop .row) _ (p .loop .row) (moves o J early e k .0) (c .before .follow .ensures .1 J early e (k .follow) (k .earliest .raised) .none (not-true _ (c .if3 .taken))))),
+      (λ J early e k. none-join (p .loop .inv .3 J early e k .sunk)
+          (none-join (moves o J early e k .0) (c .before .follow .ensures .1 J early e (k .follow) (k .earliest .raised) .none (not-true _ (c .if3 .taken))))),
     )
 
 below-requires-2 : tie.Need-below-requires-2 Inv-loop μ-loop
@@ -92,14 +93,13 @@ enum-told c = search needs
 returns-3 : tie.Need-returns-3 Inv-loop μ-loop
 returns-3 c =
     let p = c .before .before .before .before .before .before .before .before in
-    let a = p .before .before .args in
     let o = c .before .before in
     let low = o .lower-at .last .1 .1 .1 .1 .1 .1 .0 in
     let due = c .before .before .before .before .before .before .due-below in (
       o .lower-at .ensures .0,
-      (λ J early e k. none-join J early (a .row .now) (p .loop .row) (p .loop .row) (p .loop .inv .3 J early e k .sunk)
+      (λ J early e k. none-join (p .loop .inv .3 J early e k .sunk)
           (subst (λ (r : Moved). Moves J early (p .loop .row) low (AtD J early (row-in (p .loop .row)) (due .result .d)) r) (c .enum-told .given .1)
-          (o .lower-at .ensures .1 J early k (due-by (p .loop .limit) (J .size) (p .loop .row) (due .result) (below (c .before .before .before .before .before .before) (J .size) e) (c .before .before .before .before .if1 .left))))),
+          (o .lower-at .ensures .1 J early k (due-by _ _ _ _ (below (c .before .before .before .before .before .before) (J .size) e) (c .before .before .before .before .if1 .left))))),
     )
 
 loop-less : tie.Need-loop-less Inv-loop μ-loop
@@ -117,7 +117,8 @@ loop-again c =
       among-start (a .size) (due .result .d) _ (c .below2 .result) (c .below2 .ensures),
       (λ J early e k.
           let m = moves o J early e k in
-          passing-moved J early (a .row .now) (p .loop .row) (p .loop .all) (p .loop .limit) (p .loop .inv .3 J early e k) (due .result) (below (c .before .before .before .before .before .before .before .before .before .before .before .before) (J .size) e) _ _ _ (or-some (p .loop .all) (o .before .moved .given .0 .0) (c .before .before .before .before .if2 .taken))
+          passing-moved (p .loop .inv .3 J early e k) (below (c .before .before .before .before .before .before .before .before .before .before .before .before) (J .size) e)
+          (or-some (p .loop .all) (o .before .moved .given .0 .0) (c .before .before .before .before .if2 .taken))
           (m .0) (m .2 (c .before .before .before .before .if2 .taken)) (follow .ensures .1 J early e (k .follow) (k .earliest .raised) .sunk (not-false _ (c .before .if3 .left)))),
     )
 
@@ -129,14 +130,14 @@ loop-again-2 c =
     let p = c .before .before .before .before .before .before .before .before .before .before in
     let a = p .before .before .args in
     let due = c .before .before .before .before .before .before .before .before .due-below in
-    let j = p .before .before .pre .6 in (
+    let j = p .before .before .pre .known in (
       c .before .before .before .before .lower-at .ensures .0,
       omega (arith, due .ensures .some (c .before .before .before .before .before .before .if1 .left), p .loop .inv .1),
       subst (λ (x : List ℕ). Among (a .size) (due .result .d) x (due .result .jobs)) (sym (moves (c .before) (j .0) (j .1) (j .2) (j .3) .1 (c .if2 .left) .0))
-          (among-next (p .loop .limit) (a .size) (p .loop .row) (due .result) (below (c .before .before .before .before .before .before .before .before) (a .size) refl) (c .before .before .before .before .before .before .if1 .left)),
+          (among-next _ _ _ _ (below (c .before .before .before .before .before .before .before .before) (a .size) refl) (c .before .before .before .before .before .before .if1 .left)),
       (λ J early e k.
           let m = moves (c .before) J early e k .1 (c .if2 .left) in
-          passing-still J early (a .row .now) (p .loop .row) (p .loop .all) (p .loop .limit) (p .loop .inv .3 J early e k) (due .result) (below (c .before .before .before .before .before .before .before .before) (J .size) e) _ (m .0) (m .1)),
+          passing-still (p .loop .inv .3 J early e k) (below (c .before .before .before .before .before .before .before .before) (J .size) e) (m .0) (m .1)),
     )
 
 pub pass-spec : {M : Type 1} → statement M

@@ -16,13 +16,20 @@ use Rattle.planner.proofs.tighten.tighten.Tie as tie
 
 -- the jobs of the list, their earliest times, and what the tables tell of them
 abbrev jobs : (c : tie.After-follow) → Jobs
-jobs c = jobs-in (c .before .before .before .before .before .before .before .before .before .before .before .before .before .before .before .args .size) (c .before .before .before .before .before .before .before .before .before .before .before .before .before .before .before .args .start .now) (joined-rows (c .before .before .before .before .before .before .before .before .before .before .before .before .before .before .before .args .before .now) (c .before .before .before .before .before .before .before .before .before .before .before .before .before .before .before .args .second .0) (c .before .before .before .before .before .before .before .before .before .before .before .before .before .before .before .args .more))
+jobs c =
+    let a = c .before .before .before .before .before .before .before .before .before .before .before .before .before .before .before .args in
+    jobs-in (a .size) (a .start .now) (joined-rows (a .before .now) (a .second .0) (a .more))
 
 abbrev early : (c : tie.After-follow) → ℕ → ℕ
 early c = row-in (c .before .before .before .before .before .before .before .before .before .before .before .before .earliest .last .1 .1 .1 .1 .1 .0)
 
-known : (c : tie.After-follow) → Known (jobs c) (early c) (c .before .before .before .before .before .before .before .before .before .before .followers2 .last .1 .1 .1 .1 .0) (c .before .before .before .before .before .levels .last .1 .1 .0) (c .before .before .before .before .before .levels .last .1 .1 .1 .0) (c .before .before .before .before .before .levels .last .1 .1 .1 .1 .0)
-known c = record { levels = c .before .before .before .before .before .levels .ensures .0; ranks = c .before .before .before .before .before .levels .ensures .1; earliest = c .before .before .before .before .before .before .before .before .before .before .before .before .earliest .ensures .earliest; follow = λ i j l. c .before .before .before .before .before .before .before .before .before .before .followers2 .ensures i j }
+known : (c : tie.After-follow) →
+    let levels = c .before .before .before .before .before .levels .last .1 .1 in
+    Known (jobs c) (early c) (c .before .before .before .before .before .before .before .before .before .before .followers2 .last .1 .1 .1 .1 .0) (levels .0) (levels .1 .0) (levels .1 .1 .0)
+known c =
+    let follow = c .before .before .before .before .before .before .before .before .before .before in
+    let levels = c .before .before .before .before .before .levels .ensures in
+    record { levels = levels .0; ranks = levels .1; earliest = follow .before .before .earliest .ensures .earliest; follow = λ i j l. follow .followers2 .ensures i j }
 
 -- each job one below its least follower
 fits : (c : tie.After-follow) → Fits (jobs c) (early c) (c .before .before .before .before .before .before .before .before .before .before .before .before .before .before .before .args .row .now) (c .follow .last .1 .1 .1 .1 .0) (c .follow .result)
@@ -38,26 +45,32 @@ followers-requires : tie.Need-followers-requires
 followers-requires c κs = let p = c .before .before .before .before .pre in (p .0, p .1 .few, refl, (λ i l. getD-replicate 64 i 0 0 l))
 
 levels-requires : tie.Need-levels-requires
-levels-requires c κs = (c .before .before .before .before .before .before .before .before .before .pre .1 .few, c .before .before .before .before .before .before .earliest .ensures .low, (refl, refl, refl), (λ k l. (getD-replicate 65 k 65535 0 l, getD-replicate 65 k 0 0 l)))
+levels-requires c κs =
+    let e = c .before .before .before .before .before .before in
+    (e .before .before .before .pre .1 .few, e .earliest .ensures .low, (refl, refl, refl), (λ k l. (getD-replicate 65 k 65535 0 l, getD-replicate 65 k 0 0 l)))
 
 below-requires : tie.Need-below-requires
 below-requires c κs = search needs
 
 follow-requires : tie.Need-follow-requires
-follow-requires c κs = (c .before .before .before .before .before .before .before .before .before .before .before .before .before .before .pre .1 .few, c .before .before .before .before .before .before .before .before .before .before .before .before .before .before .pre .1 .long, c .before .before .before .before .before .before .before .before .before .before .before .earliest .ensures .jobs)
+follow-requires c κs =
+    let e = c .before .before .before .before .before .before .before .before .before .before .before in
+    let p = e .before .before .before .pre .1 in
+    (p .few, p .long, e .earliest .ensures .jobs)
 
 settled-requires : tie.Need-settled-requires
 settled-requires c κs =
     let f = c .before .before .before .before .before .before .before in
-    let p = f .before .before .before .before .before .before .before .before .before .before .before .before .before .before .before .pre .1 in (
-      p .few,
-      f .follow .ensures .0,
-      f .before .before .before .before .before .before .before .before .before .before .before .before .earliest .ensures .jobs,
-      known f .levels .steps,
-      (λ i l. known f .ranks i l .0),
-      (λ i l. omega (arith, p .late i l, fits f .sunk (c .before .before .before .before .before .before .if1 .taken) .bound .beneath i l)),
-      (jobs f, early f, refl, known f),
-    )
+    let p = f .before .before .before .before .before .before .before .before .before .before .before .before .before .before .before .pre .1 in
+    record {
+      few = p .few;
+      long = f .follow .ensures .0;
+      jobs = f .before .before .before .before .before .before .before .before .before .before .before .before .earliest .ensures .jobs;
+      steps = known f .levels .steps;
+      ranks = λ i l. known f .ranks i l .0;
+      low = λ i l. omega (arith, p .late i l, fits f .sunk (c .before .before .before .before .before .before .if1 .taken) .bound .beneath i l);
+      known = (jobs f, early f, refl, known f);
+    }
 
 returns : tie.Need-returns
 returns c =

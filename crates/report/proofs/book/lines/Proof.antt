@@ -1,13 +1,13 @@
 -- `book::lines` meets its contract: the jobs line, the slots of the plan, the jobs.
 -- Assumes nothing.
-use mathlib.Core.Path.{_≡_, refl, sym, ap, _∙_}
+use mathlib.Core.Path.{_≡_, refl, sym}
 use Prim.Native.Nat.{ℕ}
 use native.Mathlib.Omega.{arith}
 use borrow.Author.Needs.{needs}
 use mathlib.Core.List.{_++_}
 use Rattle.report.specs.Inner.Put.{Puts}
 use Rattle.report.specs.Line.{jobs-line}
-use Rattle.report.specs.Listing.{slot-lines, job-lines}
+use Rattle.report.specs.Listing.{slot-lines}
 use Rattle.planner.specs.Planned.{finish-of, bytes-of}
 use Rattle.report.proofs.Put.{puts-then}
 use Rattle.report.proofs.Short.{Short, jobs-short}

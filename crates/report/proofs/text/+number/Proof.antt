@@ -1,13 +1,12 @@
 -- `text::number` meets its contract: the digits in front of the last, by a call with a tenth, and the last.
 -- Assumes nothing.
 use mathlib.Core.Logic.{⊎-elim}
-use mathlib.Core.Path.{_≡_, refl, sym, ap, _∙_}
 use mathlib.Core.List.{[], _∷_}
 use Prim.Native.Nat.{ℕ, _+_, _%_, _<_}
 use native.Mathlib.Omega.{arith}
-use lib.ListN.{length, length-append, length-set}
+use lib.ListN.{length-set}
 use Rattle.report.specs.Inner.Put.{Room, Puts}
-use Rattle.report.proofs.Put.{puts-none, puts-byte, puts-then, puts-length, puts-as, room-first, room-rest}
+use Rattle.report.proofs.Put.{puts-none, puts-byte, puts-then, puts-length, room-first, room-rest}
 use Rattle.report.proofs.Decimal.{front, front-small, front-large, decimal-last}
 use borrow.Fn.Kinds.{In}
 use borrow.Fn.PlainCycle.{Measures, is, falls, and}

@@ -6,7 +6,6 @@ use Prim.Native.Nat.{ℕ, _-_}
 use native.Mathlib.Omega.{arith}
 use borrow.Author.Needs.{needs}
 use lib.ListN.{length, getD}
-use Rattle.report.specs.Inner.Put.{Room}
 use Rattle.report.specs.Inner.Fill.{piece}
 use Rattle.report.proofs.Put.{puts-length}
 use Rattle.report.proofs.Each.{Passed, none-passed, room-next, one-passed, all-passed, each-filled}

@@ -22,13 +22,13 @@ below-requires : tie.Need-below-requires Inv-loop μ-loop
 below-requires c κs = c .pre .1 .few
 
 loop-holds : tie.Need-loop-holds Inv-loop μ-loop
-loop-holds c = making-start _ _ _ (c .before .pre .1) _ _ _ (c .before .pre .2) (c .before .pre .3) (c .below .ensures)
+loop-holds c = making-start (c .before .pre .1) _ _ _ (c .before .pre .2) (c .before .pre .3) (c .below .ensures)
 
 free-requires : tie.Need-free-requires Inv-loop μ-loop
 free-requires c κs =
     let p = c .before in
     let start = p .before .before in
-    (start .pre .0, making-free (start .args .size) (start .args .start .now) _ (start .pre .1) (p .loop .early) (p .loop .order) (p .loop .todo) (p .loop .k) (p .loop .inv) (search needs))
+    (start .pre .0, making-free (start .pre .1) (p .loop .inv) (search needs))
 
 mul-joined : tie.Need-mul-joined Inv-loop μ-loop
 mul-joined c = search needs
@@ -67,7 +67,7 @@ cast-early c =
     let f = c .before .before .before .before .before .before in
     let p = f .before .before in
     let start = p .before .before in
-    omega (arith, making-time (start .args .size) (start .args .start .now) _ (start .pre .1) (p .loop .early) (p .loop .order) (p .loop .todo) (p .loop .k) (p .loop .inv) (f .free .result .0) (f .free .ensures .1) (c .after .result) (timed c))
+    omega (arith, making-time (start .pre .1) (p .loop .inv) (f .free .ensures .1) (timed c))
 
 mul-early : tie.Need-mul-early Inv-loop μ-loop
 mul-early c = search needs
@@ -95,13 +95,13 @@ loop-again c =
     let f = c .before .before .before .before .before .before .before in
     let p = f .before .before in
     let start = p .before .before in
-    making-next (start .args .size) (start .args .start .now) _ (start .pre .1) (p .loop .early) (p .loop .order) (p .loop .todo) (p .loop .k) (p .loop .inv) (f .free .result .0) (f .free .ensures .1) (c .before .after .result) (timed (c .before)) (search needs) (c .without .result) (c .without .ensures)
+    making-next (start .pre .1) (p .loop .inv) (f .free .ensures .1) (timed (c .before)) (search needs) _ (c .without .ensures)
 
 returns : tie.Need-returns Inv-loop μ-loop
 returns c =
     let p = c .before in
     let start = p .before .before in
-    making-end (start .args .size) (start .args .start .now) _ (start .pre .1) (p .loop .early) (p .loop .order) (p .loop .todo) (p .loop .k) (p .loop .inv) (search needs)
+    making-end (start .pre .1) (p .loop .inv) (search needs)
 
 pub earliest-spec : {M : Type 1} → statement M
 earliest-spec =

@@ -9,7 +9,7 @@ use Rattle.schedule.specs.Count.{count}
 use Rattle.planner.specs.Sets.{has}
 use Rattle.planner.specs.Inner.Chains.{joined-rows}
 use Rattle.planner.specs.Inner.Early.{Free}
-use Rattle.planner.proofs.Bits.{apart-is, apart-has, has-some, rest-walk, walk-less, walk-split, walk-sub}
+use Rattle.planner.proofs.Bits.{apart-is, apart-has, has-some, rest-walk, rest-less, walk-split, walk-sub}
 use Rattle.planner.proofs.Join.{rows-at, rows-keep}
 use borrow.Author.Needs.{needs}
 use Rattle.planner.proofs.tighten.early.free.Statement.{statement}
@@ -56,7 +56,7 @@ rest-requires c κs = let p = c .before .before .before in has-some _ (p .loop .
 loop-less : tie.Need-loop-less Inv-loop μ-loop
 loop-less c =
     let f = c .before .before .before .first in
-    walk-less (c .before .before .before .before .loop .rest) (c .rest .result) (f .result .0) (rest-walk _ _ _ (f .ensures .3) (c .rest .ensures)) (f .ensures .0) (f .ensures .1)
+    rest-less _ _ _ (f .ensures .0) (f .ensures .1) (f .ensures .3) (c .rest .ensures)
 
 loop-again : tie.Need-loop-again Inv-loop μ-loop
 loop-again c =

@@ -12,19 +12,21 @@ use Rattle.schedule.specs.Jobs.{Jobs}
 use Rattle.schedule.specs.Times.{Raised}
 use Rattle.planner.specs.Told.{row-in}
 use Rattle.planner.specs.Inner.Lower.{Eased}
-use Rattle.planner.proofs.Bits.{rest-walk, walk-less, walk-sub}
+use Rattle.planner.proofs.Bits.{rest-walk, rest-less, walk-sub}
 use Rattle.planner.proofs.TightenLower.{eased-same, eased-follow}
 use Rattle.planner.proofs.tighten.follow.capped.Statement.{statement}
 use Rattle.planner.proofs.tighten.follow.capped.Tie as tie
 
 abbrev Inv-loop : tie.InvT-loop
-Inv-loop held set row time₀ rest₀ time rest = ((a : ℕ) → T (has rest a) → T (has set a)) × ((J : Jobs) (early : ℕ → ℕ) (i : ℕ) → i < J .size → row-in row i ≡ held → ((j : ℕ) → T (has set j) → (j < J .size) × T (J .before i j)) → Raised J early → Eased J early (row-in row) i time)
+Inv-loop held set row time₀ rest₀ time rest =
+    ((a : ℕ) → T (has rest a) → T (has set a))
+    × ((J : Jobs) (early : ℕ → ℕ) (i : ℕ) → i < J .size → row-in row i ≡ held → ((j : ℕ) → T (has set j) → (j < J .size) × T (J .before i j)) → Raised J early → Eased J early (row-in row) i time)
 
 abbrev μ-loop : tie.MeasureT-loop
 μ-loop held set row time₀ rest₀ time rest = count 64 (has rest)
 
 loop-holds : tie.Need-loop-holds Inv-loop μ-loop
-loop-holds c = ((λ a t. t), (λ J early i l e f r. rw (sym e) (eased-same J early (row-in (c .args .row .now)) i l)))
+loop-holds c = ((λ a t. t), (λ J early i l e f r. rw (sym e) (eased-same J early (row-in (c .args .row .now)) l)))
 
 first-requires : tie.Need-first-requires Inv-loop μ-loop
 first-requires c κs = search needs
@@ -42,7 +44,7 @@ returns c J early i l e f r =
     let j = f (k .result .0) (p .loop .inv .0 (k .result .0) (k .ensures .1)) in
     let row = row-in (p .before .args .row .now) in
     let z : row (k .result .0) - 1 ≡ 0 = omega arith in
-    subst (λ (n : ℕ). Eased J early row i n) z (eased-follow J early row i l r (k .result .0) (j .0) (j .1) (p .loop .time) (p .loop .inv .1 J early i l e f r) (c .before .if1 .taken))
+    subst (λ (n : ℕ). Eased J early row i n) z (eased-follow J early row l r (k .result .0) (j .0) (j .1) (p .loop .time) (p .loop .inv .1 J early i l e f r) (c .before .if1 .taken))
 
 sub-time : tie.Need-sub-time Inv-loop μ-loop
 sub-time c = search needs
@@ -53,7 +55,7 @@ rest-requires c κs = search needs
 loop-less : tie.Need-loop-less Inv-loop μ-loop
 loop-less c =
     let k = c .before .before .before .first in
-    walk-less (c .before .before .before .before .before .loop .rest) (c .rest .result) (k .result .0) (rest-walk _ _ _ (k .ensures .3) (c .rest .ensures)) (k .ensures .0) (k .ensures .1)
+    rest-less _ _ _ (k .ensures .0) (k .ensures .1) (k .ensures .3) (c .rest .ensures)
 
 loop-again : tie.Need-loop-again Inv-loop μ-loop
 loop-again c =
@@ -64,7 +66,7 @@ loop-again c =
       (λ J early i l e f r.
           let j = f (k .result .0) (p .loop .inv .0 (k .result .0) (k .ensures .1)) in
           ⊎-elim
-          (λ w. rw (w .2) (eased-follow J early row i l r (k .result .0) (j .0) (j .1) (p .loop .time) (p .loop .inv .1 J early i l e f r) (w .0 .taken)))
+          (λ w. rw (w .2) (eased-follow J early row l r (k .result .0) (j .0) (j .1) (p .loop .time) (p .loop .inv .1 J early i l e f r) (w .0 .taken)))
           (λ w. rw (w .1) (p .loop .inv .1 J early i l e f r))
           (c .before .if1 .came)),
     )

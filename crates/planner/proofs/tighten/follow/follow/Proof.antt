@@ -26,24 +26,31 @@ in-row : (c : tie.In-loop Inv-loop μ-loop) → getD (c .before .before .args .o
 in-row c = c .before .before .pre .2 (c .before .loop .k - 1) (omega arith)
 
 -- its new time loses nothing
-eased : (c : tie.After-capped Inv-loop μ-loop) (J : Jobs) (early : ℕ → ℕ) → J .size ≡ c .before .before .before .before .before .before .before .args .size → Follows J (c .before .before .before .before .before .before .before .args .followers .now) → Raised J early →
-    (getD (c .before .before .before .before .before .before .before .args .order .now) (c .before .before .before .before .before .before .loop .k - 1) 0 < J .size) × Eased J early (row-in (c .before .before .before .before .before .before .loop .row)) (getD (c .before .before .before .before .before .before .before .args .order .now) (c .before .before .before .before .before .before .loop .k - 1) 0) (c .capped .result)
+eased : (c : tie.After-capped Inv-loop μ-loop) (J : Jobs) (early : ℕ → ℕ) →
+    let p = c .before .before .before .before .before .before in
+    let a = p .before .args in
+    let i = getD (a .order .now) (p .loop .k - 1) 0 in
+    J .size ≡ a .size → Follows J (a .followers .now) → Raised J early → (i < J .size) × Eased J early (row-in (p .loop .row)) i (c .capped .result)
 eased c J early e f r =
-    let l : getD (c .before .before .before .before .before .before .before .args .order .now) (c .before .before .before .before .before .before .loop .k - 1) 0 < J .size = omega (arith, in-row (c .before .before .before .before .before), e) in
-    (l, c .capped .ensures J early (getD (c .before .before .before .before .before .before .before .args .order .now) (c .before .before .before .before .before .before .loop .k - 1) 0) l refl (followed J (c .before .before .before .before .before .before .before .args .followers .now) (getD (c .before .before .before .before .before .before .before .args .order .now) (c .before .before .before .before .before .before .loop .k - 1) 0) (c .before .before .before .before .before .before .loop .moved) l f) r)
+    let p = c .before .before .before .before .before .before in
+    let a = p .before .args in
+    let l : getD (a .order .now) (p .loop .k - 1) 0 < J .size = omega (arith, in-row (c .before .before .before .before .before), e) in
+    (l, c .capped .ensures J early _ l refl (followed J (a .followers .now) _ (p .loop .moved) l f) r)
 
 -- and is stored
 kept : (c : tie.After-capped Inv-loop μ-loop) →
-    (c .before .before .before .before .before .before .loop .k - 1 ≤ c .before .before .before .before .before .before .before .args .size) × (length (set (c .before .before .before .before .before .before .loop .row) (getD (c .before .before .before .before .before .before .before .args .order .now) (c .before .before .before .before .before .before .loop .k - 1) 0) (c .capped .result)) ≡ 64)
-    × ((J : Jobs) (early : ℕ → ℕ) → J .size ≡ c .before .before .before .before .before .before .before .args .size → Follows J (c .before .before .before .before .before .before .before .args .followers .now) → Raised J early →
-    Sunk J early (c .before .before .before .before .before .before .before .args .row .now) (set (c .before .before .before .before .before .before .loop .row) (getD (c .before .before .before .before .before .before .before .args .order .now) (c .before .before .before .before .before .before .loop .k - 1) 0) (c .capped .result)))
+    let p = c .before .before .before .before .before .before in
+    let a = p .before .args in
+    let next = set (p .loop .row) (getD (a .order .now) (p .loop .k - 1) 0) (c .capped .result) in
+    (p .loop .k - 1 ≤ a .size) × (length next ≡ 64)
+    × ((J : Jobs) (early : ℕ → ℕ) → J .size ≡ a .size → Follows J (a .followers .now) → Raised J early → Sunk J early (a .row .now) next)
 kept c =
     let p = c .before .before .before .before .before .before in (
       omega (arith, p .loop .inv .0),
       simp length-set (p .loop .inv .1),
       (λ J early e f r.
           let x = eased c J early e f r in
-          sunk-put J early (p .before .args .row .now) (p .loop .row) (getD (c .before .before .before .before .before .before .before .args .order .now) (c .before .before .before .before .before .before .loop .k - 1) 0) (c .capped .result) (omega (arith, p .before .pre .0)) (p .loop .inv .1) (p .loop .inv .2 J early e f r) (x .0) (x .1)),
+          sunk-put (p .loop .inv .2 J early e f r) (omega (arith, p .before .pre .0)) (p .loop .inv .1) (x .0) (x .1)),
     )
 
 loop-holds : tie.Need-loop-holds Inv-loop μ-loop
@@ -81,15 +88,13 @@ element-write-row c = omega (arith, in-row (c .before .before .before .before .b
 
 returns : tie.Need-returns Inv-loop μ-loop
 returns c =
-    let p = c .before .before .before .before .before .before .before in
-    let a = p .before .args in
-    let i = getD (a .order .now) (p .loop .k - 1) 0 in (
+    let p = c .before .before .before .before .before .before .before in (
       simp length-set (p .loop .inv .1),
       (λ J early e f r.
           let x = eased (c .before) J early e f r in
           record {
             sunk = λ b. absurd (subst T (sym b) tt);
-            none = λ b. sunk-none J early (a .row .now) (p .loop .row) i (c .before .capped .result) (omega (arith, p .before .pre .0)) (p .loop .inv .1) (p .loop .inv .2 J early e f r) (x .0) (x .1) (c .if1 .taken);
+            none = λ b. sunk-none (p .loop .inv .2 J early e f r) (omega (arith, p .before .pre .0)) (p .loop .inv .1) (x .0) (x .1) (c .if1 .taken);
           }),
     )
 

@@ -19,7 +19,7 @@ wide-requires c κs = search needs
 returns : tie.Need-returns
 returns c =
     let a = c .before .before .before .args in
-    (search needs, (λ J early row x e. ruled-shut J early row (a .job .0) (x .job) e (a .d) (omega (arith, x .holds, x .begins, c .before .wide .ensures .0))))
+    (search needs, (λ J early row x e. ruled-shut J early row (x .job) e (a .d) (omega (arith, x .holds, x .begins, c .before .wide .ensures .0))))
 
 pressure-requires : tie.Need-pressure-requires
 pressure-requires c κs = search needs
@@ -32,24 +32,21 @@ add-if2 c = search needs
 
 returns-2 : tie.Need-returns-2
 returns-2 c =
-    let a = c .before .before .before .before .before .args in
-    (search needs, (λ J early row x e. rw (sym (x .holds)) (ruled-still J early row (a .job .0) (x .job) e (a .d) (c .before .pressure .result) (omega (arith, x .holds, x .begins)) (omega (arith, x .holds)) (c .before .pressure .ensures .1 J early row x) (omega (arith, x .holds)))))
+    (search needs, (λ J early row x e. rw (sym (x .holds)) (ruled-still J early row (x .job) e (c .before .pressure .ensures .1 J early row x) (omega (arith, x .holds, x .begins)) (omega (arith, x .holds)) (omega (arith, x .holds)))))
 
 add-if3 : tie.Need-add-if3
 add-if3 c = search needs
 
 returns-3 : tie.Need-returns-3
 returns-3 c =
-    let a = c .before .before .before .before .before .before .args in
-    (search needs, (λ J early row x e. ruled-full J early row (a .job .0) (x .job) e (a .d) (c .before .before .pressure .result) (omega (arith, x .holds, x .begins)) (omega (arith, x .holds)) (c .before .before .pressure .ensures .1 J early row x) (omega (arith, x .holds)) (omega (arith, x .begins, c .if3 .taken))))
+    (search needs, (λ J early row x e. ruled-full J early row (x .job) e (c .before .before .pressure .ensures .1 J early row x) (omega (arith, x .holds, x .begins)) (omega (arith, x .holds)) (omega (arith, x .holds)) (omega (arith, x .begins, c .if3 .taken))))
 
 sub-result : tie.Need-sub-result
 sub-result c = search needs
 
 returns-4 : tie.Need-returns-4
 returns-4 c =
-    let a = c .before .before .before .before .before .before .args in
-    (search needs, (λ J early row x e. ruled-lower J early row (a .job .0) (x .job) e (a .d) (c .before .before .pressure .result) (omega (arith, x .holds, x .begins)) (omega (arith, x .holds)) (c .before .before .pressure .ensures .1 J early row x) (omega (arith, x .holds)) (omega (arith, x .begins, c .if3 .left))))
+    (search needs, (λ J early row x e. ruled-lower J early row (x .job) e (c .before .before .pressure .ensures .1 J early row x) (omega (arith, x .holds, x .begins)) (omega (arith, x .holds)) (omega (arith, x .holds)) (omega (arith, x .begins, c .if3 .left))))
 
 pub lowered-spec : {M : Type 1} → statement M
 lowered-spec =
