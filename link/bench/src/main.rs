@@ -3,11 +3,16 @@
 //!     bench times [ROUNDS]       the table of times: median, and the ratio
 //!     bench cases                the names of the cases, one a line
 //!     bench count CASE SIDE N    one case N times, for a counter of instructions
+//!     bench file KIND            the job file of levels or of the chain
+//!     bench listing              the plain listing of the job file at standard input
 mod engine;
+mod listing;
 mod lists;
 
 use lists::List;
 use std::hint::black_box;
+use std::io::{Read, Write};
+use std::process::{Command, Stdio};
 
 type Work = Box<dyn FnMut() -> usize>;
 
@@ -32,7 +37,13 @@ fn main() {
         "times" => times(word(2).parse().unwrap_or(41)),
         "cases" => cases().iter().for_each(|case| println!("{}", case.name)),
         "count" => count(word(2), word(3), word(4).parse().unwrap()),
-        _ => eprintln!("bench times [ROUNDS] | cases | count CASE SIDE CALLS"),
+        "file" => std::io::stdout().write_all(&file_of(word(2))).unwrap(),
+        "listing" => {
+            let mut file = vec![];
+            std::io::stdin().read_to_end(&mut file).unwrap();
+            print!("{}", listing::listing(&file));
+        }
+        _ => eprintln!("bench times [ROUNDS] | cases | count CASE SIDE CALLS | file KIND | listing"),
     }
 }
 
@@ -71,8 +82,13 @@ fn cases() -> Vec<Case> {
     for (kind, list) in [("levels", lists::levels as fn() -> List), ("chain", lists::chain)] {
         add(format!("read {kind}"), Box::new(move |_| read(&Both::of(&list(), 64))));
         add(format!("write {kind}"), Box::new(move |_| write(&Both::of(&list(), 64))));
+        add(format!("listing {kind}"), Box::new(move |_| listed(file_of(kind))));
     }
     cases
+}
+
+fn file_of(kind: &str) -> Vec<u8> {
+    Both::of(&if kind == "chain" { lists::chain() } else { lists::levels() }, 64).file()
 }
 
 fn books(make: fn(usize, usize) -> List, n: usize, seeds: usize) -> Vec<Both> {
@@ -236,14 +252,38 @@ fn write(both: &Both) -> Pair {
     Pair { proved: Box::new(proved), plain: Box::new(plain) }
 }
 
-/// Processor time of this thread in nanoseconds, since a machine may be shared.
+/// The whole listing, as two programs: what each prints must be the same.
+fn listed(file: Vec<u8>) -> Pair {
+    let again = file.clone();
+    let own = std::env::current_exe().unwrap();
+    let proved = move || summed(&printed(&mut Command::new("target/bin/listing"), &file));
+    let plain = move || summed(&printed(Command::new(&own).arg("listing"), &again));
+    Pair { proved: Box::new(proved), plain: Box::new(plain) }
+}
+
+fn printed(program: &mut Command, file: &[u8]) -> Vec<u8> {
+    let mut child = program.stdin(Stdio::piped()).stdout(Stdio::piped()).spawn().expect("the program is built");
+    child.stdin.take().unwrap().write_all(file).unwrap();
+    child.wait_with_output().unwrap().stdout
+}
+
+fn summed(text: &[u8]) -> usize {
+    text.iter().fold(0, |sum: usize, &byte| sum.wrapping_mul(31).wrapping_add(byte as usize))
+}
+
+/// Processor time of this thread, and of the programs that it ran, in nanoseconds, since a machine may be shared.
 fn now() -> u64 {
-    let mut time = [0i64; 2];
+    let (mut time, mut used) = ([0i64; 2], [0i64; 18]);
     unsafe extern "C" {
         fn clock_gettime(clock: i32, time: *mut i64) -> i32;
+        fn getrusage(who: i32, used: *mut i64) -> i32;
     }
-    unsafe { clock_gettime(3, time.as_mut_ptr()) };
-    time[0] as u64 * 1_000_000_000 + time[1] as u64
+    unsafe {
+        clock_gettime(3, time.as_mut_ptr());
+        getrusage(-1, used.as_mut_ptr());
+    }
+    let children = (used[0] + used[2]) * 1_000_000_000 + (used[1] + used[3]) * 1_000;
+    (time[0] * 1_000_000_000 + time[1] + children) as u64
 }
 
 /// Nanoseconds a call, over so many calls, and the sum of what they answered.
