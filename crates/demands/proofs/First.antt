@@ -17,14 +17,16 @@ use Rattle.planner.specs.declared.book.Request.the-variants.{Job, Before, Earli
 use Rattle.planner.specs.declared.book.Applied.{Applied}
 use Rattle.planner.specs.declared.refusal.Answer.{Answer}
 use Rattle.planner.specs.declared.refusal.Answer.the-variants.{Accepted, Refused}
-use Rattle.planner.specs.Answer.{number-of}
+use Rattle.planner.specs.Answer.{Says, number-of}
 use Rattle.planner.specs.Told.{Made}
-use Rattle.planner.specs.Unless.{Unless, refused, passed, UnlessAt, first, clear}
-use Rattle.planner.specs.Outcome.{refusal, Grown, Outcome, Applies}
-use Rattle.planner.specs.Judged.{Judgement, turned-down, Judged-as}
+use Rattle.planner.specs.Unless.{Unless, refused, passed}
+use Rattle.planner.specs.Outcome.{request-checks, accepts-with, grow, Turned, Grown, Applies}
+use Rattle.planner.specs.Judged.{list-of, list-checks, TurnedDown, Fitted, Judges}
 use Rattle.planner.specs.declared.refusal.Placed.the-variants as placed
 use Rattle.planner.specs.Planned.{Places}
-use Rattle.planner.proofs.Once.{unless-all}
+use Rattle.planner.proofs.Laws.{among-each, table-all}
+use Rattle.planner.proofs.Judged.{list-each}
+use Rattle.planner.proofs.Once.{unless-all, request-each}
 use Rattle.jobfile.specs.declared.record.Asked.{Asked}
 use Rattle.jobfile.specs.declared.record.Asked.the-variants.{Known, Unknown}
 use Rattle.jobfile.specs.declared.reader.Event.the-variants as event
@@ -36,11 +38,6 @@ use Rattle.jobfile.proofs.Whole.{request-inside}
 use Rattle.demands.specs.Demands.{Numbered, Demand1}
 
 -- ---- what holds of every refusal
-unless-at-all : {A : Type 0} (P : A → Type 0) (r : A) (n : ℕ) (fault : ℕ → Type 0) (refusal : ℕ → A) (next : A → Type 0) →
-    ((i : ℕ) → P (refusal i)) → (next r → P r) → UnlessAt n fault refusal next r → P r
-unless-at-all P r n fault refusal next a f (first i l b x e) = rw e (a i)
-unless-at-all P r n fault refusal next a f (clear x y) = f y
-
 -- an answer that is accepted is not refused
 pub not-both : (a : Answer) (v n w : ℕ) → a ≡ Accepted v → a ≡ Refused n w → ⊥
 not-both a v n w x y = let z : _≡_ {A = ℕ} 0 1 = cc in omega arith
@@ -49,46 +46,31 @@ not-both a v n w x y = let z : _≡_ {A = ℕ} 0 1 = cc in omega arith
 pub same-number : (n v c w : ℕ) → Refused c w ≡ Refused n v → c ≡ n
 same-number n v c w e = cc
 
-module _ (k : Book) where
-  -- refused with a number of the table, and the book as it was
-  abbrev Kept : Applied → Type 0
-  Kept r = (n v : ℕ) → r .answer ≡ Refused n v → Numbered n × (r .book ≡ k)
-
-  kept-by : (c : ℕ) → 1 ≤ c → c ≤ 11 → Kept (refusal k c)
-  kept-by c a b n v e = let s = same-number n v c 0 e in ((omega arith, omega arith), refl)
-
-  kept-grown : (L : Listed) (value : ℕ) (r : Applied) → Grown L value r → Kept r
-  kept-grown L value r g n v e = absurd (not-both (r .answer) value n v (g .answer) e)
-
-  kept-outcome : (L : Listed) (q : Request) (r : Applied) → Outcome L k q r → Kept r
-  kept-outcome L (Job s d) r =
-      unless-all Kept r _ (refusal k 1) _ (kept-by 1 (omega arith) (omega arith)) (unless-all Kept r _ (refusal k 2) _ (kept-by 2 (omega arith) (omega arith))
-      (unless-all Kept r _ (refusal k 3) _ (kept-by 3 (omega arith) (omega arith)) (unless-all Kept r _ (refusal k 4) _ (kept-by 4 (omega arith) (omega arith)) (kept-grown _ _ r))))
-  kept-outcome L (Before a b) r =
-      unless-all Kept r _ (refusal k 5) _ (kept-by 5 (omega arith) (omega arith)) (unless-all Kept r _ (refusal k 6) _ (kept-by 6 (omega arith) (omega arith))
-      (unless-all Kept r _ (refusal k 4) _ (kept-by 4 (omega arith) (omega arith)) (kept-grown _ _ r)))
-  kept-outcome L (Earlier j d) r =
-      unless-all Kept r _ (refusal k 5) _ (kept-by 5 (omega arith) (omega arith)) (unless-all Kept r _ (refusal k 2) _ (kept-by 2 (omega arith) (omega arith))
-      (unless-all Kept r _ (refusal k 3) _ (kept-by 3 (omega arith) (omega arith)) (unless-all Kept r _ (refusal k 4) _ (kept-by 4 (omega arith) (omega arith)) (kept-grown _ _ r))))
-
 -- ---- demand 1
 request : (k : Book) (q : Request) (r : Applied) (n v : ℕ) → Made k → Applies k q r → r .answer ≡ Refused n v → Numbered n × (r .book ≡ k)
-request k q r n v m x = kept-outcome k (m .0) q r (x .outcome (m .0) (m .1)) n v
+request k q r n v m x e = table-all (request-checks (m .0) q) (Turned k) (Grown (grow (m .0) q) (accepts-with (m .0) q)) r (Numbered n × (r .book ≡ k))
+    (λ c w y a. (
+      subst Numbered (subst (λ z. Says z c w) e (a .answer) .1) (among-each Numbered (request-checks (m .0) q) c (
+        request-each Numbered
+            (omega arith, omega arith) (omega arith, omega arith) (omega arith, omega arith) (omega arith, omega arith) (omega arith, omega arith) (m .0) q,
+        (omega arith, omega arith),
+      ) y),
+      a .book,
+    ))
+    (λ g. let z = subst (λ z. Says z 0 (accepts-with (m .0) q)) e (g .answer) in absurd (omega (arith, z .0, z .1))) (x .outcome (m .0) (m .1))
 
 module _ (old : List ℕ) where
-  -- refused with a number of the table, and the row as it was
-  abbrev Stays : Judgement → Type 0
-  Stays r = (n v : ℕ) → r .answer ≡ Refused n v → Numbered n × (r .row ≡ old)
-
-  stays-by : (c p : ℕ) → Numbered c → Stays (turned-down old c p)
-  stays-by c p h n v e = let s = same-number n v c p e in ((omega arith, omega arith), refl)
-
-  stays-list : (starts deadlines pairs : List ℕ) (r : Judgement) → Judged-as starts deadlines pairs old r → Stays r
-  stays-list starts deadlines pairs r =
-      unless-all Stays r _ _ _ (stays-by 7 0 (omega arith, omega arith)) (unless-all Stays r _ _ _ (stays-by 1 0 (omega arith, omega arith))
-      (unless-at-all Stays r _ _ _ _ (λ i. stays-by _ i (cond-case Numbered (ltb 4095 (getD starts i 0) || ltb 4096 (getD deadlines i 0)) 2 3 (λ t. (omega arith, omega arith)) (λ t. (omega arith, omega arith))))
-      (unless-at-all Stays r _ _ _ _ (λ i. stays-by 5 i (omega arith, omega arith)) (unless-at-all Stays r _ _ _ _ (λ i. stays-by 6 i (omega arith, omega arith))
-      (unless-all Stays r _ _ _ (stays-by 4 0 (omega arith, omega arith)) (λ f n v e. absurd (not-both (r .answer) 0 n v (f .answer) e)))))))
+  stays-list : (starts deadlines pairs new : List ℕ) (n v : ℕ) → Judges starts deadlines pairs old new (Refused n v) → Numbered n × (new ≡ old)
+  stays-list starts deadlines pairs new n v = table-all (list-checks starts deadlines pairs old) (TurnedDown old) (Fitted (list-of starts deadlines pairs) old) _ (Numbered n × (new ≡ old))
+      (λ c w y a. (
+        subst Numbered (a .answer .1) (among-each Numbered (list-checks starts deadlines pairs old) c (
+          list-each Numbered
+              (omega arith, omega arith) (omega arith, omega arith) (omega arith, omega arith) (omega arith, omega arith) (omega arith, omega arith) (omega arith, omega arith) starts deadlines pairs old,
+          (omega arith, omega arith),
+        ) y),
+        a .row,
+      ))
+      (λ g. absurd (omega (arith, g .answer .0, g .answer .1)))
 
   -- bytes lent for a plan or a file
   stays-lent : (size told : ℕ) (bytes new : List ℕ) (n v : ℕ) →
@@ -220,7 +202,7 @@ placed-number k job n v (passed f e) = let z : _≡_ {A = ℕ} 0 1 = cc in absur
 pub demand-1 : Demand1
 demand-1 = record {
   request = request;
-  list = λ starts deadlines pairs old new n v j. stays-list old starts deadlines pairs _ j n v refl;
+  list = λ starts deadlines pairs old new n v j. stays-list old starts deadlines pairs new n v j;
   plan = λ k old new n v x. stays-lent old _ _ _ new n v x;
   place = placed-number;
   record-read = λ k file at r n v m x. still k m file at r x .asked n v;

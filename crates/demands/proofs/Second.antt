@@ -21,11 +21,14 @@ use Rattle.planner.specs.declared.book.Applied.{Applied}
 use Rattle.planner.specs.declared.refusal.Answer.{Answer}
 use Rattle.planner.specs.declared.refusal.Answer.the-variants.{Accepted, Refused}
 use Rattle.planner.specs.Told.{jobs-of, latest-of, Told}
-use Rattle.planner.specs.Unless.{Unless, refused, passed}
-use Rattle.planner.specs.Outcome.{Planned, refusal, Judged, Outcome, grow}
-use Rattle.planner.specs.Judged.{list-of, turned-down, Judgement, Fitted, Judged-as}
+use Rattle.planner.specs.Unless.{refused, passed}
+use Rattle.planner.specs.Answer.{Says}
+use Rattle.planner.specs.Outcome.{Planned, sound-checks, plan-check, accepts-with, Turned, Grown, Outcome, grow}
+use Rattle.planner.specs.Judged.{list-of, rows-checks, TurnedDown, Fitted, Judges}
 use Rattle.planner.specs.Planned.{plan-of, finish-of, bytes-of, Plans, core-of}
-use Rattle.planner.proofs.Judged.{unless-past, unless-at-past}
+use Rattle.planner.proofs.Laws.{table-last}
+use Rattle.planner.proofs.Once.{request-each}
+use Rattle.planner.proofs.Judged.{list-each}
 use Rattle.planner.proofs.Handed.{plan-shown}
 use Rattle.jobfile.proofs.RoundTrip.{round-trip}
 use Rattle.demands.specs.Demands.{Shown, Hopeless, Demand2}
@@ -62,44 +65,22 @@ hopeless L none = record {
   clocks = λ J C r s. none (J, r, clocked-iff-plan C 2 J (written L) .0 s);
 }
 
--- a check that answers with another number was passed
-past : (k : Book) (r : Applied) (v c : ℕ) (fault : Type 0) (next : Applied → Type 0) → r .answer ≡ Refused 4 v → (4 ≡ c → ⊥) → Unless fault (refusal k c) next r → next r
-past k r v c fault next a f (refused x e) = absurd (f (same-number c 0 4 v (sym a ∙ ap (λ (y : Applied). y .answer) e)))
-past k r v c fault next a f (passed x y) = y
-
-four : (L : Listed) (value : ℕ) (k : Book) (r : Applied) (v : ℕ) → r .answer ≡ Refused 4 v → Judged L value k r → Planned L → ⊥
-four L value k r v a (refused x e) = x
-four L value k r v a (passed x g) = absurd (not-both (r .answer) value 4 v (g .answer) a)
-
 pub refused-hopeless : (L : Listed) (k : Book) (q : Request) (r : Applied) (v : ℕ) → r .answer ≡ Refused 4 v → Outcome L k q r → Planned (grow L q) → ⊥
-refused-hopeless L k (Job s d) r v a o =
-    four _ _ k r v a (past k r v 3 _ _ a (λ e. omega arith) (past k r v 2 _ _ a (λ e. omega arith) (past k r v 1 _ _ a (λ e. omega arith) o)))
-refused-hopeless L k (Before x y) r v a o = four _ _ k r v a (past k r v 6 _ _ a (λ e. omega arith) (past k r v 5 _ _ a (λ e. omega arith) o))
-refused-hopeless L k (Earlier j d) r v a o =
-    four _ _ k r v a (past k r v 3 _ _ a (λ e. omega arith) (past k r v 2 _ _ a (λ e. omega arith) (past k r v 5 _ _ a (λ e. omega arith) o)))
+refused-hopeless L k q r v e o = table-last (sound-checks L q) (plan-check (grow L q)) (Turned k) (Grown (grow L q) (accepts-with L q)) r 4
+    (request-each (λ m. 4 ≡ m → ⊥) (λ e. omega arith) (λ e. omega arith) (λ e. omega arith) (λ e. omega arith) (λ e. omega arith) L q)
+    (λ m w a. subst (λ z. Says z m w) e (a .answer) .1) (λ g. let z = subst (λ z. Says z 0 (accepts-with L q)) e (g .answer) in absurd (omega (arith, z .1))) o .2 .0
 
 -- the same of a whole list
-module _ (old : List ℕ) (r : Judgement) (v : ℕ) (a : r .answer ≡ Refused 4 v) where
-  other : (c p : ℕ) → (4 ≡ c → ⊥) → r ≡ turned-down old c p → ⊥
-  other c p f e = f (same-number c p 4 v (sym a ∙ ap (λ (y : Judgement). y .answer) e))
-
-  judged-hopeless : (starts deadlines pairs : List ℕ) → Judged-as starts deadlines pairs old r → Planned (list-of starts deadlines pairs) → ⊥
-  judged-hopeless starts deadlines pairs j =
-      let form = unless-past _ _ _ r (other 7 0 (λ e. omega arith)) j in
-      let room = unless-past _ _ _ r (other 1 0 (λ e. omega arith)) (form .1) in
-      let jobs = unless-at-past _ _ _ _ r (λ i. other _ i (cond-case (λ n. 4 ≡ n → ⊥) (ltb 4095 (getD starts i 0) || ltb 4096 (getD deadlines i 0)) 2 3 (λ t e. omega arith) (λ t e. omega arith))) (room .1) in
-      let held = unless-at-past _ _ _ _ r (λ i. other 5 i (λ e. omega arith)) (jobs .1) in
-      let free = unless-at-past _ _ _ _ r (λ i. other 6 i (λ e. omega arith)) (held .1) in
-      last (free .1)
-    where
-      last : Unless (Planned (list-of starts deadlines pairs) → ⊥) (turned-down old 4 0) (Fitted (list-of starts deadlines pairs) old) r → Planned (list-of starts deadlines pairs) → ⊥
-      last (refused x e) = x
-      last (passed x g) = absurd (not-both (r .answer) 0 4 v (g .answer) a)
+judged-hopeless : (starts deadlines pairs old new : List ℕ) (v : ℕ) → Judges starts deadlines pairs old new (Refused 4 v) → Planned (list-of starts deadlines pairs) → ⊥
+judged-hopeless starts deadlines pairs old new v o =
+    table-last (rows-checks starts deadlines pairs old) (plan-check (list-of starts deadlines pairs)) (TurnedDown old) (Fitted (list-of starts deadlines pairs) old) _ 4
+    (list-each (λ m. 4 ≡ m → ⊥) (λ e. omega arith) (λ e. omega arith) (λ e. omega arith) (λ e. omega arith) (λ e. omega arith) (λ e. omega arith) starts deadlines pairs old)
+    (λ m w a. a .answer .1) (λ g. absurd (omega (arith, g .answer .1))) o .2 .0
 
 pub demand-2 : Demand2
 demand-2 = record {
   plan = λ L k old new told t. handed L k t old new told;
   none = λ L k q r v t x a. hopeless (grow L q) (refused-hopeless L k q r v a (x .outcome L t));
-  none-listed = λ starts deadlines pairs old new v j. hopeless (list-of starts deadlines pairs) (judged-hopeless old _ v refl starts deadlines pairs j);
+  none-listed = λ starts deadlines pairs old new v j. hopeless (list-of starts deadlines pairs) (judged-hopeless starts deadlines pairs old new v j);
   same-book = round-trip;
 }

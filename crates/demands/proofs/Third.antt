@@ -2,7 +2,7 @@
 -- Beside it, the rule that a request that says nothing new changes nothing.
 -- Assumes nothing.
 use mathlib.Core.List.{List, [], _∷_, _++_}
-use mathlib.Core.Logic.{⊎-elim}
+use mathlib.Core.Logic.{inr}
 use mathlib.Core.Path.{_≡_, refl, sym, ap, ap₂, _∙_}
 use Prim.Native.Nat.{ℕ, zero, suc, _+_, _*_, _/_, _≤_, _<_}
 use native.Mathlib.Omega.{arith}
@@ -23,13 +23,15 @@ use Rattle.planner.specs.declared.refusal.Answer.{Answer}
 use Rattle.planner.specs.declared.refusal.Answer.the-variants.{Accepted, Refused}
 use Rattle.planner.specs.Told.{jobs-of, latest-of, Told}
 use Rattle.planner.specs.Unless.{refused, passed}
-use Rattle.planner.specs.Outcome.{Planned, Judged, Outcome, grow, Run}
+use Rattle.planner.specs.Outcome.{Planned, Sound, request-checks, accepts-with, Turned, Grown, Outcome, grow, Run}
 use Rattle.planner.specs.Judged.{first-of, second-of, pairs-of, list-of, Misshapen, Judges}
 use Rattle.planner.specs.Planned.{finish-of, bytes-of, Plans}
 use Rattle.planner.proofs.Once.{run-told, run-one}
-use Rattle.planner.proofs.Judged.{unless-free, list-is-requests}
+use Rattle.planner.proofs.Judged.{list-is-requests}
+use Rattle.planner.proofs.Laws.{table-caught}
+use Rattle.planner.proofs.Says.{says-refused}
 use Rattle.planner.proofs.Unchanged.{order-unchanged, deadline-unchanged}
-use Rattle.demands.specs.Demands.{Sound, Demand3, Unchanged}
+use Rattle.demands.specs.Demands.{Demand3, Unchanged}
 use Rattle.demands.proofs.First.{not-both}
 use Rattle.demands.proofs.Second.{refused-hopeless}
 
@@ -88,18 +90,9 @@ module _ (L : Listed) (k : Book) (t : Told k L) (J : Jobs) (times : ℕ → ℕ)
       (same, ap (λ (x : Answer × List ℕ). x .1) e ∙ ap₂ (λ (front : List ℕ) (n : ℕ). front ++ drop (2 * n) old) shown (sym ends))
 
 -- ---- a sound request is refused only for want of a plan
-judged-refused : (L : Listed) (value : ℕ) (k : Book) (r : Applied) → (Planned L → ⊥) → Judged L value k r → r .answer ≡ Refused 4 0
-judged-refused L value k r none (refused x e) = ap (λ (y : Applied). y .answer) e
-judged-refused L value k r none (passed x y) = absurd (x none)
-
 hopeless-refused : (L : Listed) (k : Book) (q : Request) (r : Applied) → Sound L q → (Planned (grow L q) → ⊥) → Outcome L k q r → r .answer ≡ Refused 4 0
-hopeless-refused L k (Job s d) r x none o =
-    judged-refused _ _ k r none (unless-free _ _ _ r (λ f. omega (arith, x .3)) (unless-free _ _ _ r (λ f. ⊎-elim (λ g. omega (arith, x .1)) (λ g. omega (arith, x .2)) f)
-    (unless-free _ _ _ r (λ f. omega (arith, x .0)) o)))
-hopeless-refused L k (Before a b) r x none o =
-    judged-refused _ _ k r none (unless-free _ _ _ r (λ f. ⊎-elim (x .2) (x .3) f) (unless-free _ _ _ r (λ f. ⊎-elim (λ g. omega (arith, x .0)) (λ g. omega (arith, x .1)) f) o))
-hopeless-refused L k (Earlier j d) r x none o =
-    judged-refused _ _ k r none (unless-free _ _ _ r (λ f. omega (arith, x .2)) (unless-free _ _ _ r (λ f. omega (arith, x .1)) (unless-free _ _ _ r (λ f. omega (arith, x .0)) o)))
+hopeless-refused L k q r sound none o =
+    says-refused (r .answer) 4 0 (omega arith) .0 (table-caught (request-checks L q) (Turned k) (Grown (grow L q) (accepts-with L q)) r 4 0 (inr (sound, (none, refl, refl))) o .answer)
 
 pub demand-3 : Demand3
 demand-3 = record {

@@ -22,7 +22,7 @@ use Rattle.planner.specs.declared.refusal.Answer.{Answer}
 use Rattle.planner.specs.declared.refusal.Answer.the-variants.{Accepted, Refused}
 use Rattle.planner.specs.declared.refusal.Placed.the-variants as placed
 use Rattle.planner.specs.Told.{jobs-of, latest-of, Told, Made, nothing-listed}
-use Rattle.planner.specs.Outcome.{Planned, Applies, grow, Run}
+use Rattle.planner.specs.Outcome.{Planned, Sound, Applies, grow, Run}
 use Rattle.planner.specs.Judged.{list-of, Misshapen, Judges}
 use Rattle.planner.specs.Planned.{Plans, Places}
 use Rattle.jobfile.specs.declared.reader.Step.{Step}
@@ -83,12 +83,6 @@ pub record Demand2 : Type 1 where
   pub same-book : (k empty : Book) → Made k → Told empty nothing-listed → ReadsBack k empty
 
 -- ---- 3. "Take any run of new jobs, new orders and earlier deadlines on a book that began empty, and strike out the refused ones": `Run L k`, where L is the remaining list
--- a request that earns no refusal before 4
-abbrev pub Sound : Listed → Request → Type 0
-Sound L (Job s d) = (length (L .starts) < 64) × (s ≤ 4095) × (d ≤ 4096) × (s < d)
-Sound L (Before a b) = (a .0 < length (L .starts)) × (b .0 < length (L .starts)) × (a .0 ≡ b .0 → ⊥) × (Chain (L .orders) (b .0) (a .0) → ⊥)
-Sound L (Earlier j d) = (j .0 < length (L .starts)) × (d ≤ 4096) × (getD (L .starts) (j .0) 0 < d)
-
 pub record Demand3 : Type 0 where
   -- "The tightened deadlines .. are then exactly those that the definition gives for the remaining list"
   pub held : (L : Listed) (k : Book) → Run L k → Told k L

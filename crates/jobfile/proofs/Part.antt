@@ -17,7 +17,7 @@ use Rattle.planner.specs.declared.book.Request.{Request}
 use Rattle.planner.specs.declared.book.Request.the-variants.{Job, Before, Earlier}
 use Rattle.planner.specs.declared.book.Applied.{Applied}
 use Rattle.planner.specs.Told.{jobs-of, latest-of, Told, nothing-listed}
-use Rattle.planner.proofs.Judged.{unless-free}
+use Rattle.planner.proofs.Laws.{table-free, table-rest}
 use Rattle.planner.proofs.Requests.{among-planned}
 use Rattle.planner.specs.Outcome.{Planned, Grown, Judged, Outcome, grow}
 
@@ -112,7 +112,7 @@ module _ (k : Book) (L : Listed) (t : Told k L) where
 
   -- is accepted
   judged-grown : (M : Listed) (value : ℕ) (b : Book) (r : Applied) → Part k M → Judged M value b r → Grown M value r
-  judged-grown M value b r p x = unless-free _ _ _ r (λ no. no (part-planned M p)) x
+  judged-grown M value b r p x = table-free _ _ _ r (λ no. no (part-planned M p)) x
 
   pub next-accepted : (M : Listed) (q : Request) (b : Book) (r : Applied) → Part k M → Next k M q → Outcome M b q r → (value : ℕ) × Grown (grow M q) value r
   next-accepted M (Job s d) b r p (room, es, ed) x =
@@ -122,13 +122,15 @@ module _ (k : Book) (L : Listed) (t : Told k L) where
       let apart = window i room in (
         i,
         judged-grown (grow M (Job s d)) i b r (next-part M (Job s d) p (room, es, ed))
-            (unless-free _ _ _ r (λ f. omega arith) (unless-free _ _ _ r (λ f. ⊎-elim (λ g. omega arith) (λ g. omega arith) f) (unless-free _ _ _ r (λ f. omega (arith, t .shaped .few)) x))),
+            (table-rest ((λ f. omega (arith, t .shaped .few)), ((λ f. ⊎-elim (λ g. omega arith) (λ g. omega arith) f), λ f. omega arith)) x),
       )
   next-accepted M (Before a c) b r p (all, y) x =
       let h = t .shaped .before-rest (a .0) (c .0) y in (
         0,
         judged-grown (grow M (Before a c)) 0 b r (next-part M (Before a c) p (all, y))
-            (unless-free _ _ _ r (λ f. ⊎-elim (λ e. let z = rw e at y in loopless (c .0) (c .0) z z) (λ z. loopless (a .0) (c .0) y (part-chain M p z)) f)
-            (unless-free _ _ _ r (λ f. ⊎-elim (λ g. omega arith) (λ g. omega arith) f) x)),
+            (table-rest (
+              (λ f. ⊎-elim (λ g. omega arith) (λ g. omega arith) f),
+              λ f. ⊎-elim (λ e. let z = rw e at y in loopless (c .0) (c .0) z z) (λ z. loopless (a .0) (c .0) y (part-chain M p z)) f,
+            ) x),
       )
   next-accepted M (Earlier j d) b r p y x = absurd y

@@ -19,6 +19,7 @@ use Rattle.planner.specs.Unless.{refused, passed}
 use Rattle.planner.specs.Outcome.{grow}
 use Rattle.planner.proofs.Judged.{unless-free}
 use Rattle.planner.proofs.Same.{told-one}
+use Rattle.planner.proofs.Says.{says-accepted}
 use Rattle.jobfile.specs.declared.record.Asked.the-variants.{Known}
 use Rattle.jobfile.specs.declared.reader.Event.the-variants as event
 use Rattle.jobfile.specs.declared.reader.Step.{Step}
@@ -78,7 +79,7 @@ module _ (k : Book) (L : Listed) (t : Told k L) (file : List ℕ) (short : lengt
       (number-of a ≡ 0) × Told (r .book) (grow M q)
   accepted-next M q b at r a s p n g y =
       let z = next-accepted k L t M q b (record { book = r .book; answer = y .answer }) p n (y .applies .outcome M s) in
-      let same : a ≡ Accepted (z .0) = cc (z .1 .answer, y .event) in
+      let same : a ≡ Accepted (z .0) = cc (says-accepted (y .answer) (z .0) .0 (z .1 .answer), y .event) in
       (ap number-of same, z .1 .told)
 
   reads-on : (qs : List Request) (M : Listed) (b : Book) (front : List ℕ) (at : ℕ) (numbers : List ℕ) (r : Step) → Told b M → Part k M → Fits k M qs →

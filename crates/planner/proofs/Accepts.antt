@@ -23,11 +23,11 @@ use Rattle.planner.specs.declared.book.Request.the-variants.{Job, Before
 use Rattle.planner.specs.declared.book.Applied.{Applied}
 use Rattle.planner.specs.Sets.{has}
 use Rattle.planner.specs.Told.{jobs-of, latest-of, row-in, Told}
-use Rattle.planner.specs.Unless.{passed}
 use Rattle.planner.specs.Outcome.{Planned, acceptance, Applies}
 use Rattle.planner.specs.Inner.Chains.{Links, entries, joined-rows}
 use Rattle.planner.proofs.Bits.{only, with-has}
 use Rattle.schedule.proofs.Same.{reads-one, plan-one}
+use Rattle.planner.proofs.Laws.{then-table}
 use Rattle.planner.proofs.Once.{applies-by}
 use Rattle.planner.proofs.Step.{Grows, size-is, job-grows, order-grows, followed-told, told-judged, Tight, with-latest, tight-judged}
 use Rattle.planner.proofs.Join.{entries-length, entries-at, rows-long, joined-links}
@@ -77,8 +77,8 @@ module _ (L : Listed) (k : Book) (t : Told k L) where
         next = with-latest grown (x .0);
         value = k .size;
         applies = applies-by k (Job s d) r (L, t) (λ M u.
-            passed (λ f. omega (arith, size-is M k u)) (passed (λ f. ⊎-elim (λ g. omega arith) (λ g. omega arith) f) (passed (λ f. omega arith)
-            (tight-judged (with-job M s d) k grown (k .size) _ (x .0) (size-is M k u) (job-grows M k u s d room low high) (x .1)))));
+            then-table ((λ f. omega (arith, size-is M k u)), ((λ f. ⊎-elim (λ g. omega arith) (λ g. omega arith) f), λ f. omega arith))
+            (tight-judged (with-job M s d) k grown (k .size) _ (x .0) (size-is M k u) (job-grows M k u s d room low high) (x .1)));
       }
     where
       grown : Book
@@ -120,11 +120,11 @@ module _ (L : Listed) (k : Book) (t : Told k L) where
         next = k;
         value = 0;
         applies = applies-by k _ _ (L, t) (λ M u.
-            passed (held M u) (passed (clear M u) (told-judged (with-order M a b) 0 k (acceptance k 0) refl (followed-told M k u a b la lb old))));
+            then-table (held M u, clear M u) (told-judged (with-order M a b) 0 k (acceptance k 0) refl (followed-told M k u a b la lb old)));
       }
       go (inr new) = record {
         next = with-latest grown (x .0);
         value = 0;
         applies = applies-by k _ _ (L, t) (λ M u.
-            passed (held M u) (passed (clear M u) (tight-judged (with-order M a b) k grown 0 0 (x .0) refl (grows M u) (x .1))));
+            then-table (held M u, clear M u) (tight-judged (with-order M a b) k grown 0 0 (x .0) refl (grows M u) (x .1)));
       }

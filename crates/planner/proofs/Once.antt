@@ -1,7 +1,8 @@
 -- A request has one outcome.
 -- Assumes nothing.
 use mathlib.Core.Path.{_≡_, sym, ap, _∙_}
-use Prim.Native.Nat.{ℕ}
+use native.Mathlib.Omega.{arith}
+use Prim.Native.Nat.{ℕ, _≤_}
 use native.Mathlib.Nat.{le-antisymm}
 use Rattle.schedule.specs.Listed.{Listed}
 use Rattle.schedule.proofs.Tests.{le-by}
@@ -11,8 +12,10 @@ use Rattle.planner.specs.declared.book.Request.the-variants.{Job, Before
 use Rattle.planner.specs.declared.book.Applied.{Applied}
 use Rattle.planner.specs.Told.{Told, Made}
 use Rattle.planner.specs.Unless.{Unless, refused, passed, UnlessAt, first, clear, One}
-use Rattle.planner.specs.Outcome.{refusal, Grown, Outcome, Outcomes, Applies, kept, Run, opened, asked}
+use Rattle.planner.specs.Outcome.{sound-checks, request-checks, accepts-with, grow, Turned, Grown, Outcome, Outcomes, Applies, kept, Run, opened, asked}
 use Rattle.planner.proofs.Same.{told-one}
+use Rattle.planner.proofs.Laws.{Each, among-each, table-one, table-all}
+use Rattle.planner.proofs.Says.{says-one, says-accepted, says-refused}
 
 -- a check keeps one result one
 pub unless-one : {A : Type 0} (fault : Type 0) (refusal : A) (next : A → Type 0) → One next → One (Unless fault refusal next)
@@ -31,14 +34,14 @@ unless-at-one n fault refusal next one r s (first i l b f x) (clear c y) = absur
 unless-at-one n fault refusal next one r s (clear b x) (first j m c g y) = absurd (b j m g)
 unless-at-one n fault refusal next one r s (clear b x) (clear c y) = one r s x y
 
--- what is accepted is settled by the list
-pub grown-one : (L : Listed) (value : ℕ) → One (Grown L value)
-grown-one L value r s x y = λ i. record { book = told-one L (r .book) (s .book) (x .told) (y .told) i; answer = (x .answer ∙ sym (y .answer)) i }
+turned-one : (k : Book) (n v : ℕ) → One (Turned k n v)
+turned-one k n v r s x y = λ i. record { book = (x .book ∙ sym (y .book)) i; answer = says-one (r .answer) (s .answer) n v (x .answer) (y .answer) i }
+
+grown-one : (L : Listed) (value : ℕ) → One (Grown L value)
+grown-one L value r s x y = λ i. record { book = told-one L (r .book) (s .book) (x .told) (y .told) i; answer = says-one (r .answer) (s .answer) 0 value (x .answer) (y .answer) i }
 
 pub outcome-one : (L : Listed) (k : Book) (q : Request) → One (Outcome L k q)
-outcome-one L k (Job start due) = unless-one _ (refusal k 1) _ (unless-one _ (refusal k 2) _ (unless-one _ (refusal k 3) _ (unless-one _ (refusal k 4) _ (grown-one _ _))))
-outcome-one L k (Before a b) = unless-one _ (refusal k 5) _ (unless-one _ (refusal k 6) _ (unless-one _ (refusal k 4) _ (grown-one _ _)))
-outcome-one L k (Earlier j due) = unless-one _ (refusal k 5) _ (unless-one _ (refusal k 2) _ (unless-one _ (refusal k 3) _ (unless-one _ (refusal k 4) _ (grown-one _ _))))
+outcome-one L k q = table-one (request-checks L q) (Turned k) (Grown (grow L q) (accepts-with L q)) (turned-one k) (grown-one (grow L q) (accepts-with L q))
 
 -- the promise of apply has one result
 pub applies-only : (k : Book) (q : Request) → Made k → One (Applies k q)
@@ -50,17 +53,19 @@ pub unless-all : {A : Type 0} (P : A → Type 0) (r : A) (fault : Type 0) (refus
 unless-all P r fault refusal next a f (refused x e) = rw e a
 unless-all P r fault refusal next a f (passed x y) = f y
 
--- after a request the book holds the list that the answer says
+-- ---- what holds of every number of the checks before 4: one line a request
+pub request-each : (P : ℕ → Type 0) → P 1 → P 2 → P 3 → P 5 → P 6 → (L : Listed) (q : Request) → Each P (sound-checks L q)
+request-each P a b c e f L (Job s d) = (a, (b, c))
+request-each P a b c e f L (Before x y) = (e, f)
+request-each P a b c e f L (Earlier j d) = (e, (b, c))
+
+pub request-some : (L : Listed) (q : Request) → Each (λ n. 1 ≤ n) (request-checks L q)
+request-some L q = (request-each (λ n. 1 ≤ n) (omega arith) (omega arith) (omega arith) (omega arith) (omega arith) L q, omega arith)
+
 pub outcome-told : (L : Listed) (k : Book) (q : Request) (r : Applied) → Told k L → Outcome L k q r → Told (r .book) (kept L q (r .answer))
-outcome-told L k (Job s d) r t =
-    let P : Applied → Type 0 = λ x. Told (x .book) (kept L (Job s d) (x .answer)) in
-    unless-all P r _ (refusal k 1) _ t (unless-all P r _ (refusal k 2) _ t (unless-all P r _ (refusal k 3) _ t (unless-all P r _ (refusal k 4) _ t (λ g. rw (g .answer) (g .told)))))
-outcome-told L k (Before a b) r t =
-    let P : Applied → Type 0 = λ x. Told (x .book) (kept L (Before a b) (x .answer)) in
-    unless-all P r _ (refusal k 5) _ t (unless-all P r _ (refusal k 6) _ t (unless-all P r _ (refusal k 4) _ t (λ g. rw (g .answer) (g .told))))
-outcome-told L k (Earlier j d) r t =
-    let P : Applied → Type 0 = λ x. Told (x .book) (kept L (Earlier j d) (x .answer)) in
-    unless-all P r _ (refusal k 5) _ t (unless-all P r _ (refusal k 2) _ t (unless-all P r _ (refusal k 3) _ t (unless-all P r _ (refusal k 4) _ t (λ g. rw (g .answer) (g .told)))))
+outcome-told L k q r t = table-all (request-checks L q) (Turned k) (Grown (grow L q) (accepts-with L q)) r (Told (r .book) (kept L q (r .answer)))
+    (λ n v x a. rw (a .book, says-refused (r .answer) n v (among-each (λ n. 1 ≤ n) (request-checks L q) n (request-some L q) x) .0 (a .answer)) t)
+    (λ g. rw (says-accepted (r .answer) (accepts-with L q) .0 (g .answer)) (g .told))
 
 pub outcomes-made : (k : Book) (q : Request) (r : Applied) → Made k → Outcomes k q r → Made (r .book)
 outcomes-made k q r m x = (kept (m .0) q (r .answer), outcome-told (m .0) k q r (m .1) (x (m .0) (m .1)))

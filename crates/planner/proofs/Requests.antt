@@ -90,8 +90,8 @@ module _ (starts deadlines pairs : List ℕ) (s : Sound starts deadlines pairs) 
       let t = run-told (begun n) (k .0) (k .1) in
       let size : k .0 .size ≡ n = size-is (begun n) (k .0) t ∙ length-take-le n starts (omega arith) in
       let sound = s .jobs n (omega arith) in
-      let a = job-accepted (begun n) (k .0) t (getD starts n 0) (getD deadlines n 0) (omega (arith, s .few)) (le-by _ 4095 (λ g. sound (inl (inl g)))) (le-by _ 4096 (λ g. sound (inl (inr g))))
-      (lt-by _ _ (λ g. sound (inr g))) (subst Planned (sym (begun-more n l)) (begun-planned (suc n) l)) in
+      let a = job-accepted (begun n) (k .0) t (getD starts n 0) (getD deadlines n 0) (omega (arith, s .few)) (le-by _ 4095 (λ g. sound .0 (inl g))) (le-by _ 4096 (λ g. sound .0 (inr g)))
+      (lt-by _ _ (sound .1)) (subst Planned (sym (begun-more n l)) (begun-planned (suc n) l)) in
       (a .next, subst (λ L. Run L (a .next)) (begun-more n l) (run-on (begun n) (k .0) _ (k .1) a))
 
   run-pairs : (n : ℕ) → n ≤ length pairs / 2 → (k : Book) × Run (paired n) k

@@ -2,7 +2,7 @@
 -- Assumes nothing.
 use mathlib.Core.Bool.{Bool, not, _&&_, _||_}
 use mathlib.Core.List.{List, [], _∷_, _++_}
-use mathlib.Core.Logic.{⊎-elim}
+use mathlib.Core.Logic.{_⊎_, inl, inr, ⊎-elim}
 use mathlib.Core.Path.{_≡_, refl, sym, ap, ap₂, subst, _∙_}
 use Prim.Native.Nat.{ℕ, zero, suc, _-_, _*_, _%_, _≤_, _<_}
 use native.Mathlib.Omega.{arith}
@@ -27,14 +27,18 @@ use Rattle.planner.specs.declared.book.Book.{Book}
 use Rattle.planner.specs.declared.refusal.Answer.{Answer}
 use Rattle.planner.specs.declared.refusal.Answer.the-variants.{Accepted, Refused}
 use Rattle.planner.specs.Told.{jobs-of, latest-of, row-in, Told}
-use Rattle.planner.specs.Unless.{Unless, refused, passed, UnlessAt, first, clear}
-use Rattle.planner.specs.Outcome.{Planned}
-use Rattle.planner.specs.Judged.{first-of, second-of, pairs-of, list-of, Misshapen, Unsound, Looping, Judgement, turned-down, Fitted, Judges}
+use Rattle.planner.specs.Unless.{refused, passed}
+use Rattle.planner.specs.Table.{places, Table}
+use Rattle.planner.specs.Table as checks
+use Rattle.planner.proofs.Laws.{table-free, table-caught}
+use Rattle.planner.proofs.Says.{says-accepted, says-refused}
+use Rattle.planner.specs.Outcome.{plan-check}
+use Rattle.planner.specs.Judged.{first-of, second-of, pairs-of, list-of, Misshapen, order-at, Judgement, TurnedDown, Fitted, Judges}
 use Rattle.planner.specs.Planned.{finish-of, bytes-of, Plans}
 use Rattle.planner.specs.Inner.List.{Held}
 use Rattle.planner.proofs.Pairs.{pairs-loopless}
 use Rattle.planner.proofs.Whole.{Sound}
-use Rattle.planner.proofs.Judged.{unless-free, unless-caught, sound-by, loops-last, sound-last}
+use Rattle.planner.proofs.Judged.{sound-by, loops-last, sound-last}
 
 -- ---- what a row of the table says of the calls
 -- judge accepts the list, and a row long enough receives these latest times
@@ -62,7 +66,7 @@ module _ (starts deadlines pairs : List ℕ) (t : T (tame starts deadlines pairs
   abbrev L : Listed
   L = list-of starts deadlines pairs
 
-  checked : ((length starts ≤ 64) × (length pairs % 2 ≡ 0)) × ((i : ℕ) → i < length starts → Unsound (getD starts i 0) (getD deadlines i 0) → ⊥)
+  checked : ((length starts ≤ 64) × (length pairs % 2 ≡ 0)) × ((i : ℕ) → i < length starts → ((4095 < getD starts i 0) ⊎ (4096 < getD deadlines i 0)) ⊎ (getD deadlines i 0 ≤ getD starts i 0) → ⊥)
   unfolding tame
   checked =
       says-and (says-and (says-le (length starts) 64) (says-eq (length pairs % 2) 0))
@@ -73,11 +77,11 @@ module _ (starts deadlines pairs : List ℕ) (t : T (tame starts deadlines pairs
   shaped e old room u = ⊎-elim (λ f. f (sym e)) (λ v. ⊎-elim (λ f. omega (arith, checked .0 .1)) (λ f. omega arith) v) u
 
   sound : Formed L → (Looped L → ⊥) → Sound starts deadlines pairs
-  sound formed loopless = sound-by starts deadlines pairs formed loopless (checked .0 .0) (checked .1)
+  sound formed loopless = sound-by starts deadlines pairs formed loopless (checked .0 .0) (λ i l. ((λ u. checked .1 i l (inl u)), λ u. checked .1 i l (inr u)))
 
   -- the check that needs it
   last : Formed L → (Looped L → ⊥) → (old new : List ℕ) (r : Answer) → length starts ≤ length old → Judges starts deadlines pairs old new r →
-      Unless (Planned L → ⊥) (turned-down old 4 0) (Fitted L old) (record { answer = r; row = new })
+      Table (plan-check L) (TurnedDown old) (Fitted L old) (record { answer = r; row = new })
   last formed loopless old new r room j =
       sound-last starts deadlines pairs old (record { answer = r; row = new }) (shaped (formed .even) old room) j (sound formed loopless)
 
@@ -101,24 +105,24 @@ accepts : {starts deadlines pairs times : List ℕ} → T (tame starts deadlines
 accepts {starts} {deadlines} {pairs} {times} t e a = record {
   judged = λ old new r room j.
       let f : Fitted L old (record { answer = r; row = new }) =
-      unless-free _ _ _ _ (λ no. no (holds-planned 2 (omega arith) (omega arith) L (a .jobs) (entry times) (a .holds)))
+      table-free _ _ _ _ (λ no. no (holds-planned 2 (omega arith) (omega arith) L (a .jobs) (entry times) (a .holds)))
       (last starts deadlines pairs t (a .holds .formed) (a .holds .loopless) old new r room j) in
       let front : (i : ℕ) → i < length times → getD new i 0 ≡ getD times i 0 =
       λ i l. holds-one 2 L (f .jobs) (a .jobs) (row-in new) (entry times) (f .holds) (a .holds) i (omega (arith, f .holds .reads .size)) in
-      (f .answer, subst (λ n. new ≡ times ++ drop n old) e (received times old new (omega arith) (f .same-length) front (λ i l. f .rest i (omega arith))));
+      (says-accepted r 0 .0 (f .answer), subst (λ n. new ≡ times ++ drop n old) e (received times old new (omega arith) (f .same-length) front (λ i l. f .rest i (omega arith))));
 }
   where
     L : Listed
     L = list-of starts deadlines pairs
 
 -- what a refusal leaves
-left : (old new : List ℕ) (r : Answer) (number place : ℕ) → _≡_ {A = Judgement} (record { answer = r; row = new }) (turned-down old number place) → (r ≡ Refused number place) × (new ≡ old)
-left old new r number place e = (ap (λ (y : Judgement). y .answer) e, ap (λ (y : Judgement). y .row) e)
+left : (old new : List ℕ) (r : Answer) (number place : ℕ) → 1 ≤ number → TurnedDown old number place (record { answer = r; row = new }) → (r ≡ Refused number place) × (new ≡ old)
+left old new r number place l x = (says-refused r number place l .0 (x .answer), x .row)
 
 refuses : {starts deadlines pairs : List ℕ} → T (tame starts deadlines pairs) → certify.Refused (list-of starts deadlines pairs) → Refuses starts deadlines pairs 4 0
 refuses {starts} {deadlines} {pairs} t x = record {
-  judged = λ old new r room j. left old new r 4 0
-      (unless-caught _ _ _ _ (λ p. x .none (plan-one 2 L (p .0) (x .jobs) (written L) (p .1) (x .reads) (p .2)))
+  judged = λ old new r room j. left old new r 4 0 (omega arith)
+      (table-caught _ _ _ _ 4 0 ((λ p. x .none (plan-one 2 L (p .0) (x .jobs) (written L) (p .1) (x .reads) (p .2))), refl, refl)
       (last starts deadlines pairs t (x .formed) (x .loopless) old new r room j));
 }
   where
@@ -173,12 +177,12 @@ looped = record {
     held = record { below = says-all 2 (λ p. says-not (says-or (says-le 2 (first-of pairs p)) (says-le 2 (second-of pairs p)))) .read tt }
 
     go : (old new : List ℕ) (r : Answer) →
-        UnlessAt 2 (Looping pairs) (turned-down old 6) (Unless (Planned (list-of starts deadlines pairs) → ⊥) (turned-down old 4 0) (Fitted (list-of starts deadlines pairs) old))
+        Table (places 2 (order-at pairs)) (TurnedDown old) (Table (plan-check (list-of starts deadlines pairs)) (TurnedDown old) (Fitted (list-of starts deadlines pairs) old))
         (record { answer = r; row = new }) → (r ≡ Refused 6 1) × (new ≡ old)
-    go old new r (first zero l b x e) = absurd (alone .free 0 (omega arith) x)
-    go old new r (first (suc zero) l b x e) = left old new r 6 1 e
-    go old new r (first (suc (suc i)) l b x e) = absurd (omega arith)
-    go old new r (clear f y) = absurd (pairs-loopless pairs 2 f (table .loop .0) (table .loop .1))
+    go old new r (checks.refused n v (zero, l, b, x) e) = absurd (alone .free 0 (omega arith) (x .0))
+    go old new r (checks.refused n v (suc zero, l, b, x) e) = left old new r 6 1 (omega arith) (rw (sym (x .1), sym (x .2)) e)
+    go old new r (checks.refused n v (suc (suc i), l, b, x) e) = absurd (omega arith)
+    go old new r (checks.passed f y) = absurd (pairs-loopless pairs 2 f (table .loop .0) (table .loop .1))
 
 -- ---- the rows marked P, in their order: starts, deadlines, pairs laid flat, and the result
 pub record Small : Type 0 where

@@ -25,11 +25,12 @@ use Rattle.planner.specs.declared.refusal.Answer.the-variants.{Accepted}
 use Rattle.planner.specs.declared.book.Applied.{Applied}
 use Rattle.planner.specs.Sets.{has}
 use Rattle.planner.specs.Told.{jobs-of, latest-of, row-in, Shaped, Limited, Told, nothing-listed}
-use Rattle.planner.specs.Unless.{refused, passed}
+use Rattle.planner.specs.Table.{refused, passed}
 use Rattle.planner.specs.Outcome.{refusal, acceptance, Judged}
 use Rattle.planner.specs.Inner.Chains.{Links}
 use Rattle.planner.specs.Inner.Tighten.{Tightenable, Tightens}
 use Rattle.schedule.proofs.Same.{plan-one}
+use Rattle.planner.proofs.Says.{says-accepted, turn}
 
 pub zeros : (n i : ℕ) → _≡_ {A = ℕ} (getD (replicate n 0) i 0) 0
 zeros zero i = refl
@@ -64,7 +65,7 @@ false-T b e t = rw e at t
 -- ---- what holds of a list that is held
 -- a book that holds the enlarged list is accepted
 pub told-judged : (L : Listed) (value : ℕ) (k : Book) (r : Applied) → r .answer ≡ Accepted value → Told (r .book) L → Judged L value k r
-told-judged L value k r e t = passed (λ no. no (holds-planned 2 (omega arith) (omega arith) L (jobs-of (r .book)) (latest-of (r .book)) (t .holds))) (record { answer = e; told = t })
+told-judged L value k r e t = passed (λ no. no (holds-planned 2 (omega arith) (omega arith) L (jobs-of (r .book)) (latest-of (r .book)) (t .holds))) (record { answer = says-accepted (r .answer) value .1 e; told = t })
 
 -- the enlarged list L, and the grown book that the code tightens for it
 pub record Grows (L : Listed) (grown : Book) : Type 0 where
@@ -117,7 +118,7 @@ module _ (L : Listed) (k grown : Book) (value : ℕ) (row : List ℕ) (fits : Bo
 
   -- or the request is refused
   pub none-judged : (r : Applied) → r ≡ refusal k 4 → fits ≡ false → Judged L value k r
-  none-judged r e n = refused (λ p. t .none n (g .onward .plans (plan-one 2 L (p .0) (jobs-of grown) (written L) (p .1) (g .onward .reads) (p .2)))) e
+  none-judged r e n = rw e (turn (omega arith) ((λ p. t .none n (g .onward .plans (plan-one 2 L (p .0) (jobs-of grown) (written L) (p .1) (g .onward .reads) (p .2)))), refl, refl))
 
 -- an entry stored and put back
 pub set-back : (l : List ℕ) (k v : ℕ) → set (set l k v) k (getD l k 0) ≡ l

@@ -16,29 +16,31 @@ use Rattle.schedule.proofs.Chains.{reads-closed, reads-loopless}
 use Rattle.schedule.proofs.Renumber.{latest-along}
 use Rattle.planner.specs.declared.refusal.Answer.{Answer}
 use Rattle.planner.specs.Told.{jobs-in, row-in}
-use Rattle.planner.specs.Unless.{Unless, refused, passed}
-use Rattle.planner.specs.Outcome.{Planned}
-use Rattle.planner.specs.Judged.{list-of, Unsound, number-for, Looping, turned-down, Fitted}
+use Rattle.planner.specs.Table.{Checks, Clear, Refuses, Table, refused, passed}
+use Rattle.planner.specs.Outcome.{times-checks, plan-check}
+use Rattle.planner.specs.Judged.{list-of, job-at, order-at, TurnedDown, Fitted}
 use Rattle.planner.specs.Inner.List.{First, Numbers, Held, Spells, Settleable, HandsOut, none, fits}
 use Rattle.schedule.proofs.Same.{reads-one, plan-one}
 use Rattle.schedule.proofs.Onward.{holds-planned}
+use Rattle.planner.proofs.Laws.{refuses-not-clear}
+use Rattle.planner.proofs.Says.{says-accepted, says-refused}
 use Rattle.planner.proofs.Pairs.{pairs-held, pairs-loopless, spells-held}
 
 -- ---- a check of every place that found none
-pub none-at : (n : ℕ) (fault : ℕ → Type 0) (p : ℕ) → First n fault p → n ≤ p → (i : ℕ) → i < n → fault i → ⊥
-none-at n fault p f l i h = f .clear i (omega arith)
+pub none-at : (n : ℕ) (at : ℕ → Checks) (p : ℕ) → First n at p → n ≤ p → (i : ℕ) → i < n → Clear (at i)
+none-at n at p f l i h = f .before i (omega arith)
 
--- the number of a job that has a fault
-pub number-is : (start deadline r : ℕ) → Numbers start deadline r → Unsound start deadline → r ≡ number-for start deadline
-number-is start deadline r n u = n .some (λ e. n .none e u) .1
+-- a job whose times are not clear has a number
+pub number-at : (start deadline r place n v : ℕ) → Numbers start deadline r → Refuses (times-checks place start deadline) n v → Refuses (times-checks place start deadline) r place
+number-at start deadline r place n v x y = x .some (λ e. refuses-not-clear (times-checks place start deadline) n v y (x .none e place)) place
 
 -- ---- what the checks before the last leave
 pub record Sound (starts deadlines pairs : List ℕ) : Type 0 where
   pub even : length starts ≡ length deadlines
   pub few : length starts ≤ 64
-  pub jobs : (i : ℕ) → i < length starts → Unsound (getD starts i 0) (getD deadlines i 0) → ⊥
+  pub jobs : (i : ℕ) → i < length starts → Clear (job-at starts deadlines i)
   pub held : Held (length starts) pairs
-  pub free : (p : ℕ) → p < length pairs / 2 → Looping pairs p → ⊥
+  pub free : (p : ℕ) → p < length pairs / 2 → Clear (order-at pairs p)
 
 module _ (starts deadlines pairs : List ℕ) (s : Sound starts deadlines pairs) where
   pub formed : Formed (list-of starts deadlines pairs)
@@ -66,8 +68,8 @@ module _ (starts deadlines pairs before : List ℕ) (s : Sound starts deadlines 
     room = l;
     few = s .few;
     rows = spells .long;
-    early = λ i h. le-by _ 4095 (λ g. s .jobs i h (inl (inl g)));
-    late = λ i h. le-by _ 4096 (λ g. s .jobs i h (inl (inr g)));
+    early = λ i h. le-by _ 4095 (λ g. s .jobs i h .0 (inl g));
+    late = λ i h. le-by _ 4096 (λ g. s .jobs i h .0 (inr g));
     closed = reads-closed L J reads;
     loopless = reads-loopless L J reads free;
     held = spells-held (length starts) pairs before (length pairs / 2) (s .held) (omega arith) spells;
@@ -89,9 +91,9 @@ module _ (starts deadlines pairs before : List ℕ) (s : Sound starts deadlines 
 
   -- the last check
   pub settles-judged : (row after : List ℕ) (r : Answer) → HandsOut starts deadlines before row after r →
-      Unless (Planned L → ⊥) (turned-down row 4 0) (Fitted L row) (record { answer = r; row = after })
+      Table (plan-check L) (TurnedDown row) (Fitted L row) (record { answer = r; row = after })
   unfolding written
-  settles-judged row after r (none x e w) = refused (λ p. x (plan-one 2 L (p .0) J (written L) (p .1) reads (p .2))) (λ i. record { answer = e i; row = w i })
+  settles-judged row after r (none x e w) = refused 4 0 ((λ p. x (plan-one 2 L (p .0) J (written L) (p .1) reads (p .2))), refl, refl) (record { answer = says-refused r 4 0 (omega arith) .1 e; row = w })
   settles-judged row after r (fits times x e h) =
       let holds = holds-row (row-in times) (row-in after) (h .front) x in
-      passed (λ no. no (holds-planned 2 (omega arith) (omega arith) L J (row-in after) holds)) (record { answer = e; same-length = h .same-length; jobs = J; holds = holds; rest = h .rest })
+      passed (λ no. no (holds-planned 2 (omega arith) (omega arith) L J (row-in after) holds)) (record { answer = says-accepted r 0 .1 e; same-length = h .same-length; jobs = J; holds = holds; rest = h .rest })

@@ -1,21 +1,20 @@
 -- What is answered to a whole list, and what the receiving row then holds, check by check (01, The whole list at once; Numbers of refusal).
 -- Assumes nothing.
-use mathlib.Core.Bool.{cond, _||_}
 use mathlib.Core.List.{List, [], _∷_, _++_}
 use mathlib.Core.Logic.{_⊎_}
 use mathlib.Core.Path.{_≡_}
 use Prim.Native.Nat.{ℕ, zero, suc, _+_, _*_, _/_, _%_, _≤_, _<_}
-use lib.Dec.{ltb}
 use lib.ListN.{length, getD}
 use Rattle.schedule.specs.Jobs.{Jobs}
-use Rattle.schedule.specs.Listed.{Listed, Chain}
+use Rattle.schedule.specs.Listed.{Listed}
 use Rattle.schedule.specs.Book.{Holds}
 use Rattle.planner.specs.declared.book.Book.{Book}
 use Rattle.planner.specs.declared.refusal.Answer.{Answer}
 use Rattle.planner.specs.declared.refusal.Answer.the-variants.{Accepted, Refused}
 use Rattle.planner.specs.Told.{row-in, latest-of, Told}
-use Rattle.planner.specs.Unless.{Unless, UnlessAt}
-use Rattle.planner.specs.Outcome.{Planned, Run}
+use Rattle.planner.specs.Answer.{Says}
+use Rattle.planner.specs.Table.{Checks, check, _then_, places, Table}
+use Rattle.planner.specs.Outcome.{times-checks, held-checks, loop-checks, plan-check, Run}
 
 -- the jobs of a pair (01, The whole list at once: "pairs "first, second" laid flat")
 abbrev pub first-of : List ℕ → ℕ → ℕ
@@ -37,48 +36,48 @@ list-of starts deadlines pairs = record { starts = starts; deadlines = deadlines
 abbrev pub Misshapen : List ℕ → List ℕ → List ℕ → List ℕ → Type 0
 Misshapen starts deadlines pairs row = (length starts ≡ length deadlines → ⊥) ⊎ ((length pairs % 2 ≡ 1) ⊎ (length row < length starts))
 
--- 2 and 3: start above 4,095 or deadline above 4,096; deadline at most the job's start (01, Numbers of refusal)
-abbrev pub Unsound : ℕ → ℕ → Type 0
-Unsound start deadline = ((4095 < start) ⊎ (4096 < deadline)) ⊎ (deadline ≤ start)
+-- the checks of a job, of a pair, and of the loop that a pair closes with those before it, each with its place
+abbrev pub job-at : List ℕ → List ℕ → ℕ → Checks
+job-at starts deadlines i = times-checks i (getD starts i 0) (getD deadlines i 0)
 
-abbrev pub number-for : ℕ → ℕ → ℕ
-number-for start deadline = cond (ltb 4095 start || ltb 4096 deadline) 2 3
+abbrev pub pair-at : ℕ → List ℕ → ℕ → Checks
+pair-at size pairs p = held-checks p size (first-of pairs p) (second-of pairs p)
 
--- 5: a job number not held (01, Numbers of refusal)
-abbrev pub Unheld : ℕ → List ℕ → ℕ → Type 0
-Unheld size pairs p = (size ≤ first-of pairs p) ⊎ (size ≤ second-of pairs p)
+abbrev pub order-at : List ℕ → ℕ → Checks
+order-at pairs p = loop-checks p (pairs-of pairs p) (first-of pairs p) (second-of pairs p)
 
--- 6: order of a job before itself, or before one that precedes it by the pairs before (01, Numbers of refusal: "at the first pair that closes a loop with those before it")
-abbrev pub Looping : List ℕ → ℕ → Type 0
-Looping pairs p = (first-of pairs p ≡ second-of pairs p) ⊎ Chain (pairs-of pairs p) (second-of pairs p) (first-of pairs p)
+-- "Whole list: 7, 1; then 2, 3 job by job; then 5 for all pairs; then 6 at the first pair that closes a loop with those before it; then 4", all but 4
+abbrev pub rows-checks : List ℕ → List ℕ → List ℕ → List ℕ → Checks
+rows-checks starts deadlines pairs row =
+    check 7 0 (Misshapen starts deadlines pairs row)
+    then check 1 0 (64 < length starts)
+    then places (length starts) (job-at starts deadlines)
+    then places (length pairs / 2) (pair-at (length starts) pairs)
+    then places (length pairs / 2) (order-at pairs)
+
+abbrev pub list-checks : List ℕ → List ℕ → List ℕ → List ℕ → Checks
+list-checks starts deadlines pairs row = rows-checks starts deadlines pairs row then plan-check (list-of starts deadlines pairs)
 
 -- the answer, and the receiving row as it is left
 pub record Judgement : Type 0 where
   pub answer : Answer
   pub row : List ℕ
 
--- refused with a number and a place, and the row as it was (01, Numbers of refusal: "All of them leave .. lent memory untouched")
-abbrev pub turned-down : List ℕ → ℕ → ℕ → Judgement
-turned-down row number place = record { answer = Refused number place; row = row }
+-- refused: number and value, and the row as it was (01, Numbers of refusal: "All of them leave .. lent memory untouched")
+pub record TurnedDown (old : List ℕ) (number value : ℕ) (r : Judgement) : Type 0 where
+  pub answer : Says (r .answer) number value
+  pub row : r .row ≡ old
 
 -- accepted: 0, and the row receives the latest times of the list (01, The whole list at once: "Its entries beyond the number of jobs stay")
 pub record Fitted (L : Listed) (row : List ℕ) (r : Judgement) : Type 0 where
-  pub answer : r .answer ≡ Accepted 0
+  pub answer : Says (r .answer) 0 0
   pub same-length : length (r .row) ≡ length row
   pub jobs : Jobs
   pub holds : Holds 2 L jobs (row-in (r .row))
   pub rest : (i : ℕ) → length (L .starts) ≤ i → getD (r .row) i 0 ≡ getD row i 0
 
--- the refusal table for a whole list (01, Numbers of refusal: "Whole list: 7, 1; then 2, 3 job by job; then 5 for all pairs; then 6 ..; then 4")
 abbrev pub Judged-as : List ℕ → List ℕ → List ℕ → List ℕ → Judgement → Type 0
-Judged-as starts deadlines pairs row =
-    Unless (Misshapen starts deadlines pairs row) (turned-down row 7 0)
-    (Unless (64 < length starts) (turned-down row 1 0)
-    (UnlessAt (length starts) (λ i. Unsound (getD starts i 0) (getD deadlines i 0)) (λ i. turned-down row (number-for (getD starts i 0) (getD deadlines i 0)) i)
-    (UnlessAt (length pairs / 2) (Unheld (length starts) pairs) (turned-down row 5)
-    (UnlessAt (length pairs / 2) (Looping pairs) (turned-down row 6)
-    (Unless (Planned (list-of starts deadlines pairs) → ⊥) (turned-down row 4 0)
-    (Fitted (list-of starts deadlines pairs) row))))))
+Judged-as starts deadlines pairs row = Table (list-checks starts deadlines pairs row) (TurnedDown row) (Fitted (list-of starts deadlines pairs) row)
 
 -- what judge promises: the row before and after, and the answer
 abbrev pub Judges : List ℕ → List ℕ → List ℕ → List ℕ → List ℕ → Answer → Type 0

@@ -2,6 +2,7 @@
 pub mod Sets
 pub mod Told
 pub mod Unless
+pub mod Table
 pub mod Answer
 pub mod Outcome
 pub mod Planned

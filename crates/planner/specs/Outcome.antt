@@ -1,6 +1,7 @@
 -- What a request does, check by check (01, Requests on a book; Numbers of refusal).
 -- Assumes nothing.
 use mathlib.Core.Logic.{_⊎_}
+use mathlib.Core.List.{List}
 use mathlib.Core.Path.{_≡_}
 use Prim.Native.Nat.{ℕ, _≤_, _<_}
 use lib.ListN.{length, getD}
@@ -13,7 +14,8 @@ use Rattle.planner.specs.declared.book.Request.the-variants.{Job, Before
 use Rattle.planner.specs.declared.refusal.Answer.{Answer}
 use Rattle.planner.specs.declared.refusal.Answer.the-variants.{Accepted, Refused}
 use Rattle.planner.specs.declared.book.Applied.{Applied}
-use Rattle.planner.specs.Unless.{Unless}
+use Rattle.planner.specs.Table.{Checks, check, _then_, Clear, Table}
+use Rattle.planner.specs.Answer.{Says}
 use Rattle.planner.specs.Told.{Told, Made, nothing-listed}
 
 -- some valid plan of the list meets its deadlines (01, Numbers of refusal: 4)
@@ -32,31 +34,65 @@ refusal k number = answered k (Refused number 0)
 abbrev pub acceptance : Book → ℕ → Applied
 acceptance k value = answered k (Accepted value)
 
--- accepted: the value, and a book that holds the enlarged list (01, Requests on a book)
+-- ---- the checks that requests and whole lists share, at a place
+-- a job's times
+abbrev pub times-checks : ℕ → ℕ → ℕ → Checks
+times-checks place start deadline = check 2 place ((4095 < start) ⊎ (4096 < deadline)) then check 3 place (deadline ≤ start)
+
+-- the two jobs of an order, of so many held
+abbrev pub held-checks : ℕ → ℕ → ℕ → ℕ → Checks
+held-checks place size first second = check 5 place ((size ≤ first) ⊎ (size ≤ second))
+
+-- the loop that an order closes with those before it
+abbrev pub loop-checks : ℕ → List (ℕ × ℕ) → ℕ → ℕ → Checks
+loop-checks place orders first second = check 6 place ((first ≡ second) ⊎ Chain orders second first)
+
+-- "sound, but no valid plan meets the deadlines"
+abbrev pub plan-check : Listed → Checks
+plan-check L = check 4 0 (Planned L → ⊥)
+
+-- the list enlarged by a request (01, Requests on a book: "the enlarged list")
+abbrev pub grow : Listed → Request → Listed
+grow L (Job s d) = with-job L s d
+grow L (Before a b) = with-order L (a .0) (b .0)
+grow L (Earlier j d) = with-deadline L (j .0) d
+
+-- ---- requests
+-- "Order of checks: new job 1, 2, 3, 4; order 5, 6, 4; earlier deadline 5, 2, 3, 4", all but 4
+abbrev pub sound-checks : Listed → Request → Checks
+sound-checks L (Job s d) = check 1 0 (64 ≤ length (L .starts)) then times-checks 0 s d
+sound-checks L (Before a b) = held-checks 0 (length (L .starts)) (a .0) (b .0) then loop-checks 0 (L .orders) (a .0) (b .0)
+sound-checks L (Earlier j d) = check 5 0 (length (L .starts) ≤ j .0) then check 2 0 (4096 < d) then check 3 0 (d ≤ getD (L .starts) (j .0) 0)
+
+-- a request that earns no refusal before 4
+abbrev pub Sound : Listed → Request → Type 0
+Sound L q = Clear (sound-checks L q)
+
+abbrev pub request-checks : Listed → Request → Checks
+request-checks L q = sound-checks L q then plan-check (grow L q)
+
+-- "An accepted new job answers its number; the other requests .. answer 0"
+abbrev pub accepts-with : Listed → Request → ℕ
+accepts-with L (Job s d) = length (L .starts)
+accepts-with L (Before a b) = 0
+accepts-with L (Earlier j d) = 0
+
+-- refused: number and value, and the same book (01, Numbers of refusal: "All of them leave book .. untouched")
+pub record Turned (k : Book) (number value : ℕ) (r : Applied) : Type 0 where
+  pub answer : Says (r .answer) number value
+  pub book : r .book ≡ k
+
+-- accepted: 0, the value, and a book that holds the enlarged list (01, Requests on a book)
 pub record Grown (L : Listed) (value : ℕ) (r : Applied) : Type 0 where
-  pub answer : r .answer ≡ Accepted value
+  pub answer : Says (r .answer) 0 value
   pub told : Told (r .book) L
 
 -- the last check of every request: 4, and then it is accepted
 abbrev pub Judged : Listed → ℕ → Book → Applied → Type 0
-Judged L value k = Unless (Planned L → ⊥) (refusal k 4) (Grown L value)
+Judged L value k = Table (plan-check L) (Turned k) (Grown L value)
 
--- the refusal table, request by request (01, Numbers of refusal: "Order of checks: new job 1, 2, 3, 4; order 5, 6, 4; earlier deadline 5, 2, 3, 4")
 abbrev pub Outcome : Listed → Book → Request → Applied → Type 0
-Outcome L k (Job s d) =
-    Unless (64 ≤ length (L .starts)) (refusal k 1)
-    (Unless ((4095 < s) ⊎ (4096 < d)) (refusal k 2)
-    (Unless (d ≤ s) (refusal k 3)
-    (Judged (with-job L s d) (length (L .starts)) k)))
-Outcome L k (Before a b) =
-    Unless ((length (L .starts) ≤ a .0) ⊎ (length (L .starts) ≤ b .0)) (refusal k 5)
-    (Unless ((a .0 ≡ b .0) ⊎ Chain (L .orders) (b .0) (a .0)) (refusal k 6)
-    (Judged (with-order L (a .0) (b .0)) 0 k))
-Outcome L k (Earlier j d) =
-    Unless (length (L .starts) ≤ j .0) (refusal k 5)
-    (Unless (4096 < d) (refusal k 2)
-    (Unless (d ≤ getD (L .starts) (j .0) 0) (refusal k 3)
-    (Judged (with-deadline L (j .0) d) 0 k)))
+Outcome L k q = Table (request-checks L q) (Turned k) (Grown (grow L q) (accepts-with L q))
 
 -- for every list that the book holds
 abbrev pub Outcomes : Book → Request → Applied → Type 0
@@ -66,12 +102,6 @@ Outcomes k q r = (L : Listed) → Told k L → Outcome L k q r
 pub record Applies (k : Book) (q : Request) (r : Applied) : Type 0 where
   pub outcome : Outcomes k q r
   pub made : Made (r .book)
-
--- the list enlarged by a request (01, Requests on a book: "the enlarged list")
-abbrev pub grow : Listed → Request → Listed
-grow L (Job s d) = with-job L s d
-grow L (Before a b) = with-order L (a .0) (b .0)
-grow L (Earlier j d) = with-deadline L (j .0) d
 
 -- the list as the answer leaves it: what is refused is struck out
 abbrev pub kept : Listed → Request → Answer → Listed

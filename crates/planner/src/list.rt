@@ -10,7 +10,7 @@ ghost use Prim.Native.Nat.{ℕ, _/_, _≤_, _<_};
 ghost use lib.Dec.{T, eqb};
 ghost use lib.ListN.{length, getD};
 ghost use Rattle.planner.specs.Sets.{has};
-ghost use Rattle.planner.specs.Judged.{Judges, Unsound, Unheld};
+ghost use Rattle.planner.specs.Judged.{Judges, job-at, pair-at};
 ghost use Rattle.planner.specs.Inner.List.{First, Numbers, Held, Spells, Loops, TakesIn, Hands, Settleable, HandsOut};
 
 // The list judged, and its latest times in the receiving row; a refusal leaves the row as it was.
@@ -49,7 +49,7 @@ pub fn judge(starts: &[u16], deadlines: &[u16], pairs: &[u16], latest: &mut [u16
 // The first job with a fault of its own, or the number of jobs.
 fn unsound_job(starts: &[u16], deadlines: &[u16]) -> JobIndex
     requires { ⌜ length (now starts) ≡ length (now deadlines) ⌝ }
-    ensures { λ r. ⌜ First (length (now (starts .entry))) (λ i. Unsound (getD (now (starts .entry)) i 0) (getD (now (deadlines .entry)) i 0)) (r .0) ⌝ }
+    ensures { λ r. ⌜ First (length (now (starts .entry))) (job-at (now (starts .entry)) (now (deadlines .entry))) (r .0) ⌝ }
 {
     let mut i: usize = 0;
     while i < starts.len() {
@@ -79,7 +79,7 @@ fn fault(start: u16, deadline: u16) -> u8
 
 // The first pair that names a job not held, or the number of pairs.
 fn unheld_pair(pairs: &[u16], size: usize) -> usize
-    ensures { λ r. ⌜ First (length (now (pairs .entry)) / 2) (Unheld size (now (pairs .entry))) r ⌝ }
+    ensures { λ r. ⌜ First (length (now (pairs .entry)) / 2) (pair-at size (now (pairs .entry))) r ⌝ }
 {
     let count = pairs.len() / 2;
     let mut p: usize = 0;

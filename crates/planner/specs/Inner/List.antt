@@ -14,23 +14,25 @@ use Rattle.planner.specs.declared.refusal.Answer.{Answer}
 use Rattle.planner.specs.declared.refusal.Answer.the-variants.{Accepted, Refused}
 use Rattle.planner.specs.Sets.{has}
 use Rattle.planner.specs.Told.{jobs-in, row-in}
-use Rattle.planner.specs.Judged.{pairs-of, Unsound, number-for, Unheld, Looping}
+use Rattle.planner.specs.Judged.{pairs-of, pair-at, order-at}
+use Rattle.planner.specs.Table.{Checks, Clear, Refuses}
+use Rattle.planner.specs.Outcome.{times-checks}
 use Rattle.planner.specs.Inner.Chains.{Links}
 
--- the first place below n that has a fault, or n where none has
-pub record First (n : ℕ) (fault : ℕ → Type 0) (r : ℕ) : Type 0 where
+-- the first place below n at which a check finds its fault, or n where none does
+pub record First (n : ℕ) (at : ℕ → Checks) (r : ℕ) : Type 0 where
   pub within : r ≤ n
-  pub clear : (j : ℕ) → j < r → fault j → ⊥
-  pub at : r < n → fault r
+  pub before : (j : ℕ) → j < r → Clear (at j)
+  pub found : r < n → (m : ℕ) × Refuses (at r) m r
 
--- the number of a job's fault, and 0 for none
+-- the number that a job's times earn, and 0 for none
 pub record Numbers (start deadline r : ℕ) : Type 0 where
-  pub none : r ≡ 0 → Unsound start deadline → ⊥
-  pub some : (r ≡ 0 → ⊥) → Unsound start deadline × (r ≡ number-for start deadline)
+  pub none : r ≡ 0 → (place : ℕ) → Clear (times-checks place start deadline)
+  pub some : (r ≡ 0 → ⊥) → (place : ℕ) → Refuses (times-checks place start deadline) r place
 
 -- every pair is of jobs below size
 pub record Held (size : ℕ) (pairs : List ℕ) : Type 0 where
-  pub below : (p : ℕ) → p < length pairs / 2 → Unheld size pairs p → ⊥
+  pub below : (p : ℕ) → p < length pairs / 2 → Clear (pair-at size pairs p)
 
 -- 64 rows spell the chains of the first n pairs
 pub record Spells (pairs : List ℕ) (n : ℕ) (rows : List ℕ) : Type 0 where
@@ -39,7 +41,7 @@ pub record Spells (pairs : List ℕ) (n : ℕ) (rows : List ℕ) : Type 0 where
 
 -- the first pair that closes a loop, and the rows of those before it
 pub record Loops (pairs rows : List ℕ) (r : ℕ) : Type 0 where
-  pub first : First (length pairs / 2) (Looping pairs) r
+  pub first : First (length pairs / 2) (order-at pairs) r
   pub spells : Spells pairs r rows
 
 -- a before b already follows, or is taken in

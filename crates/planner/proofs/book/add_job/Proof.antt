@@ -6,25 +6,26 @@ use mathlib.Core.Logic.{inl, inr, ⊎-elim}
 use Prim.Native.Nat.{ℕ}
 use native.Mathlib.Omega.{arith}
 use Rattle.planner.specs.Told.{held}
-use Rattle.planner.specs.Unless.{refused, passed}
 use Rattle.planner.specs.Outcome.{refusal}
 use Rattle.planner.proofs.Step.{size-is, job-grows, grows-ready, fits-judged, none-judged, set-back}
+use Rattle.planner.proofs.Laws.{then-table}
+use Rattle.planner.proofs.Says.{turn}
 use Rattle.planner.proofs.Join.{unjoined-ready, unjoined-tight}
 use borrow.Author.Needs.{needs}
 use Rattle.planner.proofs.book.add_job.Statement.{statement}
 use Rattle.planner.proofs.book.add_job.Tie as tie
 
 returns : tie.Need-returns
-returns c = λ L t. refused (omega (arith, size-is L _ t)) refl
+returns c = λ L t. turn (omega arith) (inl (inl (omega (arith, size-is L _ t), refl, refl)))
 
 returns-2 : tie.Need-returns-2
-returns-2 c = λ L t. passed (λ f. omega (arith, size-is L _ t)) (refused (inl (omega arith)) refl)
+returns-2 c = λ L t. turn (omega arith) (inl (inr ((λ f. omega (arith, size-is L _ t)), inl (inl (omega arith), refl, refl))))
 
 returns-3 : tie.Need-returns-3
-returns-3 c = λ L t. passed (λ f. omega (arith, size-is L _ t)) (refused (inr (omega arith)) refl)
+returns-3 c = λ L t. turn (omega arith) (inl (inr ((λ f. omega (arith, size-is L _ t)), inl (inr (omega arith), refl, refl))))
 
 returns-4 : tie.Need-returns-4
-returns-4 c = λ L t. passed (λ f. omega (arith, size-is L _ t)) (passed (λ f. ⊎-elim (λ x. omega arith) (λ x. omega arith) f) (refused (omega arith) refl))
+returns-4 c = λ L t. turn (omega arith) (inl (inr ((λ f. omega (arith, size-is L _ t)), inr ((λ f. ⊎-elim (λ x. omega arith) (λ x. omega arith) f), (omega arith, refl, refl)))))
 
 mul-old : tie.Need-mul-old
 mul-old c = search needs
@@ -57,8 +58,8 @@ add-size c = search needs
 
 returns-5 : tie.Need-returns-5
 returns-5 c = λ L t.
-    passed (λ f. omega (arith, size-is L _ t)) (passed (λ f. ⊎-elim (λ x. omega arith) (λ x. omega arith) f) (passed (λ f. omega arith)
-    (fits-judged _ _ _ _ _ _ (job-grows L _ t _ _ (omega arith) (omega arith) (omega arith)) (unjoined-tight _ _ _ _ _ _ _ (t .shaped .befores) (c .before .tighten .ensures)) _ (size-is L _ t) (c .if5 .taken))))
+    then-table ((λ f. omega (arith, size-is L _ t)), ((λ f. ⊎-elim (λ x. omega arith) (λ x. omega arith) f), λ f. omega arith))
+    (fits-judged _ _ _ _ _ _ (job-grows L _ t _ _ (omega arith) (omega arith) (omega arith)) (unjoined-tight _ _ _ _ _ _ _ (t .shaped .befores) (c .before .tighten .ensures)) _ (size-is L _ t) (c .if5 .taken))
 
 mul-start-2 : tie.Need-mul-start-2
 mul-start-2 c = search needs
@@ -69,9 +70,9 @@ element-write-start-2 c = search needs
 returns-6 : tie.Need-returns-6
 returns-6 c = λ L t.
     let a = c .before .before .before .before .before .before .before .before .before .before .before .args in
-    passed (λ f. omega (arith, size-is L _ t)) (passed (λ f. ⊎-elim (λ x. omega arith) (λ x. omega arith) f) (passed (λ f. omega arith)
+    then-table ((λ f. omega (arith, size-is L _ t)), ((λ f. ⊎-elim (λ x. omega arith) (λ x. omega arith) f), λ f. omega arith))
     (none-judged _ _ _ _ _ _ (job-grows L _ t _ _ (omega arith) (omega arith) (omega arith)) (unjoined-tight _ _ _ _ _ _ _ (t .shaped .befores) (c .before .tighten .ensures)) _
-    (ap (λ (row : List ℕ). refusal (held (a .size .now) row (a .latest .now) (a .before .now)) 4) (set-back (a .start .now) (a .size .now) (a .begin))) (c .if5 .left))))
+    (ap (λ (row : List ℕ). refusal (held (a .size .now) row (a .latest .now) (a .before .now)) 4) (set-back (a .start .now) (a .size .now) (a .begin))) (c .if5 .left))
 
 pub add-job-spec : {M : Type 1} → statement M
 add-job-spec =

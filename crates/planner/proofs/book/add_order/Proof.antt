@@ -7,23 +7,24 @@ use Rattle.schedule.specs.Listed.{Listed, with-order}
 use Rattle.planner.specs.declared.book.Applied.{Applied}
 use Rattle.planner.specs.declared.book.Request.the-variants.{Before}
 use Rattle.planner.specs.Told.{held, Told}
-use Rattle.planner.specs.Unless.{refused, passed}
 use Rattle.planner.specs.Outcome.{Judged, Outcome}
 use Rattle.planner.specs.Inner.Chains.{joined-rows}
 use Rattle.planner.proofs.Step.{Grows, false-T, true-T, size-is, order-held, order-back, order-free, followed-told, grows-ready, told-judged, fits-judged, none-judged}
+use Rattle.planner.proofs.Laws.{then-table}
+use Rattle.planner.proofs.Says.{turn}
 use Rattle.planner.proofs.Join.{joined-grows}
 use borrow.Author.Needs.{needs}
 use Rattle.planner.proofs.book.add_order.Statement.{statement}
 use Rattle.planner.proofs.book.add_order.Tie as tie
 
 returns : tie.Need-returns
-returns c = λ L t. refused (inl (omega (arith, size-is L _ t))) refl
+returns c = λ L t. turn (omega arith) (inl (inl (inl (omega (arith, size-is L _ t)), refl, refl)))
 
 returns-2 : tie.Need-returns-2
-returns-2 c = λ L t. refused (inr (omega (arith, size-is L _ t))) refl
+returns-2 c = λ L t. turn (omega arith) (inl (inl (inr (omega (arith, size-is L _ t)), refl, refl)))
 
 returns-3 : tie.Need-returns-3
-returns-3 c = λ L t. passed (order-held L _ t _ _ (omega arith) (omega arith)) (refused (inl (omega arith)) refl)
+returns-3 c = λ L t. turn (omega arith) (inl (inr (order-held L _ t _ _ (omega arith) (omega arith), (inl (omega arith), refl, refl))))
 
 mul-has : tie.Need-mul-has
 mul-has c = search needs
@@ -35,7 +36,7 @@ has-requires : tie.Need-has-requires
 has-requires c κs = search needs
 
 returns-4 : tie.Need-returns-4
-returns-4 c = λ L t. passed (order-held L _ t _ _ (omega arith) (omega arith)) (refused (inr (order-back L _ t _ _ (omega arith) (omega arith) (sym (c .before .has .ensures) ∙ c .if4 .taken))) refl)
+returns-4 c = λ L t. turn (omega arith) (inl (inr (order-held L _ t _ _ (omega arith) (omega arith), (inr (order-back L _ t _ _ (omega arith) (omega arith) (sym (c .before .has .ensures) ∙ c .if4 .taken)), refl, refl))))
 
 mul-has-2 : tie.Need-mul-has-2
 mul-has-2 c = search needs
@@ -53,8 +54,10 @@ checked : (c : tie.After-has2) (L : Listed) →
     Told k L → (r : Applied) → Judged (with-order L (a .first .0) (a .second .0)) 0 k r → Outcome L k (Before (a .first) (a .second)) r
 checked c L t r j =
     let free = c .before .before in
-    passed (order-held L _ t _ _ (omega arith) (omega arith))
-    (passed (order-free L _ t _ _ (omega arith) (omega arith) (free .before .before .before .if3 .left) (sym (free .before .has .ensures) ∙ free .if4 .left)) j)
+    then-table (
+      order-held L _ t _ _ (omega arith) (omega arith),
+      order-free L _ t _ _ (omega arith) (omega arith) (free .before .before .before .if3 .left) (sym (free .before .has .ensures) ∙ free .if4 .left),
+    ) j
 
 returns-5 : tie.Need-returns-5
 returns-5 c = λ L t.

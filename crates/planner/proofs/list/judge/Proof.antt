@@ -1,16 +1,18 @@
 -- `planner::list::judge` meets its contract: each return by the checks that led there.
 -- Assumes nothing.
 use mathlib.Core.Logic.{inl, inr, ⊎-elim}
-use mathlib.Core.Path.{_≡_, refl, ap}
-use Prim.Native.Nat.{_/_}
+use mathlib.Core.Path.{_≡_, refl}
+use Prim.Native.Nat.{_/_, _≤_}
 use native.Mathlib.Omega.{arith}
 use borrow.Author.Needs.{needs}
 use lib.ListN.{length}
-use Rattle.planner.specs.Unless.{refused, passed, first, clear}
-use Rattle.planner.specs.Judged.{Misshapen, turned-down}
+use Rattle.planner.specs.Judged.{Misshapen}
+use Rattle.planner.specs.Outcome.{times-checks}
 use Rattle.planner.specs.Inner.List.{Spells}
+use Rattle.planner.proofs.Laws.{refuses-each, then-table}
+use Rattle.planner.proofs.Says.{turn-down}
 use Rattle.planner.proofs.Pairs.{spells-none}
-use Rattle.planner.proofs.Whole.{none-at, number-is, Sound, sound-settleable, settles-judged}
+use Rattle.planner.proofs.Whole.{none-at, number-at, Sound, sound-settleable, settles-judged}
 use Rattle.planner.proofs.list.judge.Statement.{statement}
 use Rattle.planner.proofs.list.judge.Tie as tie
 
@@ -34,16 +36,16 @@ spells c =
     rw e at (c .before .looping-pair .ensures .spells)
 
 returns : tie.Need-returns
-returns c = refused (inl (c .if1 .taken)) refl
+returns c = turn-down (omega arith) (inl (inl (inl (c .if1 .taken), refl, refl)))
 
 returns-2 : tie.Need-returns-2
-returns-2 c = refused (inr (inl (c .if2 .taken))) refl
+returns-2 c = turn-down (omega arith) (inl (inl (inr (inl (c .if2 .taken)), refl, refl)))
 
 returns-3 : tie.Need-returns-3
-returns-3 c = refused (inr (inr (c .if3 .taken))) refl
+returns-3 c = turn-down (omega arith) (inl (inl (inr (inr (c .if3 .taken)), refl, refl)))
 
 returns-4 : tie.Need-returns-4
-returns-4 c = passed (shape (c .before)) (refused (c .if4 .taken) refl)
+returns-4 c = turn-down (omega arith) (inl (inr (shape (c .before), inl (c .if4 .taken, refl, refl))))
 
 unsound-job-requires : tie.Need-unsound-job-requires
 unsound-job-requires c κs = search needs
@@ -65,11 +67,10 @@ fault-requires c κs = search needs
 
 returns-5 : tie.Need-returns-5
 returns-5 c =
-    let a = c .before .before .before .before .before .before .before .before .before .before .before .before .before .args in
     let u = c .before .before .before .before .unsound-job in
     let l = c .before .before .before .if5 .taken in
-    passed (shape (c .before .before .before .before .before .before)) (passed (λ g. omega arith) (first (u .result .0) l (u .ensures .clear) (u .ensures .at l)
-    (ap (λ n. turned-down (a .latest .now) n (u .result .0)) (number-is _ _ _ (c .fault .ensures) (u .ensures .at l)))))
+    let x = number-at _ _ _ _ _ _ (c .fault .ensures) (u .ensures .found l .1) in
+    turn-down (refuses-each (λ n. 1 ≤ n) (times-checks _ _ _) _ _ (omega arith, omega arith) x) (inl (inr (shape (c .before .before .before .before .before .before), inr ((λ g. omega arith), inl (u .result .0, l, u .ensures .before, x)))))
 
 unheld-pair-requires : tie.Need-unheld-pair-requires
 unheld-pair-requires c κs = search needs
@@ -78,9 +79,16 @@ returns-6 : tie.Need-returns-6
 returns-6 c =
     let u = c .before .unheld-pair in
     let l = c .if6 .taken in
-    passed (shape (c .before .before .before .before .before)) (passed (λ g. omega arith)
-    (clear (none-at _ _ _ (c .before .before .before .unsound-job .ensures) (c .before .before .if5 .left))
-    (first (u .result) l (u .ensures .clear) (u .ensures .at l) refl)))
+    turn-down (omega arith) (inl (inr (
+      shape (c .before .before .before .before .before),
+      inr (
+        (λ g. omega arith),
+        inr (
+          none-at _ _ _ (c .before .before .before .unsound-job .ensures) (c .before .before .if5 .left),
+          inl (u .result, l, u .ensures .before, (u .ensures .found l .1 .0, refl, refl)),
+        ),
+      ),
+    )))
 
 looping-pair-requires : tie.Need-looping-pair-requires
 looping-pair-requires c κs =
@@ -90,10 +98,19 @@ returns-7 : tie.Need-returns-7
 returns-7 c =
     let u = c .before .looping-pair in
     let l = c .if7 .taken in
-    passed (shape (c .before .before .before .before .before .before .before .before)) (passed (λ g. omega arith)
-    (clear (none-at _ _ _ (c .before .before .before .before .before .before .unsound-job .ensures) (c .before .before .before .before .before .if5 .left))
-    (clear (none-at _ _ _ (c .before .before .before .before .unheld-pair .ensures) (c .before .before .before .if6 .left))
-    (first (u .result) l (u .ensures .first .clear) (u .ensures .first .at l) refl))))
+    turn-down (omega arith) (inl (inr (
+      shape (c .before .before .before .before .before .before .before .before),
+      inr (
+        (λ g. omega arith),
+        inr (
+          none-at _ _ _ (c .before .before .before .before .before .before .unsound-job .ensures) (c .before .before .before .before .before .if5 .left),
+          inr (
+            none-at _ _ _ (c .before .before .before .before .unheld-pair .ensures) (c .before .before .before .if6 .left),
+            (u .result, l, u .ensures .first .before, (u .ensures .first .found l .1 .0, refl, refl)),
+          ),
+        ),
+      ),
+    )))
 
 settle-requires : tie.Need-settle-requires
 settle-requires c κs = sound-settleable _ _ _ _ (sound (c .before .before)) (spells (c .before .before)) _ (search needs)
@@ -104,8 +121,8 @@ same-length c = search needs
 returns-8 : tie.Need-returns-8
 returns-8 c =
     let s = sound (c .before .before .before .before .before) in
-    passed (shape (c .before .before .before .before .before .before .before .before .before .before .before .before .before)) (passed (λ g. omega arith)
-    (clear (s .jobs) (clear (s .held .below) (clear (s .free) (settles-judged _ _ _ _ s (spells (c .before .before .before .before .before)) _ _ _ (c .before .before .settle .ensures))))))
+    then-table (shape (c .before .before .before .before .before .before .before .before .before .before .before .before .before), ((λ g. omega arith), (s .jobs, (s .held .below, s .free))))
+    (settles-judged _ _ _ _ s (spells (c .before .before .before .before .before)) _ _ _ (c .before .before .settle .ensures))
 
 pub judge-spec : {M : Type 1} → statement M
 judge-spec =
