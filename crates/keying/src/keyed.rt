@@ -33,8 +33,9 @@ pub enum Checked {
 pub fn key(text: &[u8], out: &mut [u8]) -> Keyed
     ensures { λ r. ⌜ Keys (now (text .entry)) (now (out .entry)) r (now (out .exit)) ⌝ }
 {
-    if text.len() > 262144 {
-        return Keyed::Mistake(line::last(&text[..262144]), Slip::TooLong);
+    let most = longest();
+    if text.len() > most {
+        return Keyed::Mistake(line::last(&text[..most]), Slip::TooLong);
     }
     match check(text) {
         Checked::Wrong(line, slip) => Keyed::Mistake(line, slip),
@@ -48,6 +49,13 @@ pub fn key(text: &[u8], out: &mut [u8]) -> Keyed
             }
         }
     }
+}
+
+// The most bytes that a text may have.
+fn longest() -> usize
+    ensures { λ r. ⌜ r ≡ 262144 ⌝ }
+{
+    262144
 }
 
 // How many records the text has, or its first mistake.

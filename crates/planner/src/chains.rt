@@ -20,6 +20,15 @@ pub fn link(size: usize, rows: &mut [u64; 64], b: JobIndex, more: u64)
     }
 }
 
+// Row y so joined, read from the rows.
+pub fn row_of(rows: &[u64; 64], y: JobIndex, b: JobIndex, more: u64) -> u64
+    requires { ⌜ (y .0 < 64) × (b .0 < 64) ⌝ }
+    ensures { λ r. ⌜ r ≡ getD (joined-rows (now (rows .entry)) (b .0) more) (y .0) 0 ⌝ }
+{
+    let i = y.0;
+    joined(rows[i], y, b, more)
+}
+
 // One such row.
 pub fn joined(row: u64, y: JobIndex, b: JobIndex, more: u64) -> u64
     requires { ⌜ (y .0 < 64) × (b .0 < 64) ⌝ }

@@ -1,11 +1,12 @@
 // The choice of the next jobs for a slot.
 use crate::sets;
-use crate::times::wide;
+use crate::times::time_at;
 use schedule::JobIndex;
 use schedule::SlotTime;
 ghost use mathlib.Core.Path.{_≡_};
 ghost use Prim.Native.Nat.{ℕ, _≤_, _<_};
 ghost use lib.Dec.{T};
+ghost use lib.ListN.{getD};
 ghost use Rattle.planner.specs.Sets.{has};
 ghost use Rattle.planner.specs.Told.{row-in};
 ghost use Rattle.planner.specs.Inner.Choice.{begins, ready-by, Chooses, Wakes};
@@ -35,8 +36,8 @@ pub fn next_jobs<'a>(
     let mut rest = left;
     while rest != 0 {
         let i = sets::first(rest).0;
-        if ready(start[i], before[i], left, t) {
-            let due = wide(latest[i]);
+        if ready(i, start, before, left, t) {
+            let due = time_at(latest, i);
             if due < least {
                 second = first;
                 later = least;
@@ -56,11 +57,18 @@ pub fn next_jobs<'a>(
 }
 
 // Whether a job has its start at most t and no predecessor undone.
-fn ready(start: u16, before: u64, undone: u64, t: SlotTime) -> bool
-    ensures { λ r. ⌜ r ≡ begins start before undone (t .0) ⌝ }
+fn ready<'a>(
+    i: usize,
+    start: &'a [u16; 64],
+    before: &'a [u64; 64],
+    undone: u64,
+    t: SlotTime,
+) -> bool
+    requires { ⌜ i < 64 ⌝ }
+    ensures { λ r. ⌜ r ≡ begins (getD (now (start .entry)) i 0) (getD (now (before .entry)) i 0) undone (t .0) ⌝ }
 {
-    if wide(start) <= t.0 {
-        return before & undone == 0;
+    if time_at(start, i) <= t.0 {
+        return before[i] & undone == 0;
     }
     false
 }
@@ -73,7 +81,7 @@ pub fn next_start(size: usize, start: &[u16; 64], t: SlotTime) -> SlotTime
     let mut next: usize = 4096;
     let mut i: usize = 0;
     while i < size {
-        let begin = wide(start[i]);
+        let begin = time_at(start, i);
         if begin > t.0 {
             if begin < next {
                 next = begin;

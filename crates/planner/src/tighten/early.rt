@@ -1,7 +1,7 @@
 // Earliest times, each job after those that precede it.
 use crate::chains;
 use crate::sets;
-use crate::times::wide;
+use crate::times::time_at;
 use schedule::JobIndex;
 ghost use mathlib.Core.Path.{_≡_};
 ghost use Prim.Native.Nat.{ℕ, _<_};
@@ -27,8 +27,8 @@ pub fn earliest<'a>(
     while k < size {
         let job = free(before, second, more, todo);
         let i = job.0;
-        let set = chains::joined(before[i], job, second, more);
-        let time = after(wide(start[i]), set, early);
+        let set = chains::row_of(before, job, second, more);
+        let time = after(time_at(start, i), set, early);
         early[i] = time as u16;
         order[k] = i as u8;
         todo = sets::without(todo, job);
@@ -46,8 +46,9 @@ fn free(before: &[u64; 64], second: JobIndex, more: u64, todo: u64) -> JobIndex
         let job = sets::first(rest);
         let i = job.0;
         // more frees no job
-        if before[i] & todo == 0 {
-            if chains::joined(before[i], job, second, more) & todo == 0 {
+        let row = before[i];
+        if row & todo == 0 {
+            if chains::joined(row, job, second, more) & todo == 0 {
                 return job;
             }
         }
@@ -64,7 +65,7 @@ fn after(start: usize, set: u64, early: &[u16; 64]) -> usize
     while rest != 0 {
         let job = sets::first(rest);
         let a = job.0;
-        let other = wide(early[a]);
+        let other = time_at(early, a);
         if time <= other {
             time = other + 1;
         }

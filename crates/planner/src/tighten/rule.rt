@@ -2,12 +2,31 @@
 use crate::sets;
 use crate::times::wide;
 use schedule::JobIndex;
+ghost use mathlib.Core.Path.{_≡_};
 ghost use Prim.Native.Nat.{ℕ, _<_, _≤_};
 ghost use lib.ListN.{getD};
+ghost use Rattle.schedule.specs.Count.{count};
 ghost use Rattle.schedule.specs.Jobs.{Jobs};
 ghost use Rattle.schedule.specs.Times.{Earliest};
+ghost use Rattle.planner.specs.Inner.Sets.{pressed};
 ghost use Rattle.planner.specs.Inner.Tables.{Steps};
 ghost use Rattle.planner.specs.Inner.Lower.{At, Pressure, Ruled};
+
+// An entry of the times.
+fn time_at(times: &[u16; 65], k: usize) -> usize
+    requires { ⌜ k < 65 ⌝ }
+    ensures { λ r. ⌜ (r ≡ getD (now (times .entry)) k 0) × (r < 65536) ⌝ }
+{
+    wide(times[k])
+}
+
+// N with the late starters of an entry.
+fn pressing_at(due: u64, followers: u64, late: &[u64; 65], k: usize, job: JobIndex) -> usize
+    requires { ⌜ (k < 65) × (job .0 < 64) ⌝ }
+    ensures { λ r. ⌜ r ≡ count 64 (pressed due followers (getD (now (late .entry)) k 0) (job .0)) ⌝ }
+{
+    sets::pressing(due, followers, late[k], job)
+}
 
 // N at the first s at which N is at least 2(d - s), 0 where there is none.
 fn pressure<'a>(
@@ -26,10 +45,10 @@ fn pressure<'a>(
     let least = 2 * (d - held);
     let mut most: usize = 64;
     let mut k = from;
-    while wide(times[k]) < held {
-        let room = 2 * (d - wide(times[k]));
+    while time_at(times, k) < held {
+        let room = 2 * (d - time_at(times, k));
         if most >= room {
-            most = sets::pressing(due, followers, late[k], job);
+            most = pressing_at(due, followers, late, k, job);
             if most >= room {
                 return most;
             }
@@ -39,7 +58,7 @@ fn pressure<'a>(
         }
         k += 1;
     }
-    let last = sets::pressing(due, followers, late[k], job);
+    let last = pressing_at(due, followers, late, k, job);
     if last >= least {
         return last;
     }
@@ -60,7 +79,7 @@ pub fn lowered<'a>(
     requires { ⌜ Steps (now times) × (job .0 < 64) × (from < 65) × (held ≤ d) × (d < 65536) ⌝ }
     ensures { λ r. ⌜ (r ≤ held) × ((J : Jobs) (early row : ℕ → ℕ) → At J early row (job .0) held d due followers from (now (times .entry)) (now (late .entry)) → Earliest J early → Ruled J early row (job .0) d r) ⌝ }
 {
-    let begin = wide(times[from]);
+    let begin = time_at(times, from);
     if held <= begin {
         return 0;
     }

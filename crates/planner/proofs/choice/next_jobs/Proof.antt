@@ -23,55 +23,37 @@ loop-holds c = walked-none _ _ _ _ _ _
 first-requires : tie.Need-first-requires Inv-loop μ-loop
 first-requires c κs = search needs
 
-mul-ready : tie.Need-mul-ready Inv-loop μ-loop
-mul-ready c = search needs
-
-element-copy-out-ready : tie.Need-element-copy-out-ready Inv-loop μ-loop
-element-copy-out-ready c = search needs
-
-mul-ready-2 : tie.Need-mul-ready-2 Inv-loop μ-loop
-mul-ready-2 c = search needs
-
-element-copy-out-ready-2 : tie.Need-element-copy-out-ready-2 Inv-loop μ-loop
-element-copy-out-ready-2 c = search needs
-
 ready-requires : tie.Need-ready-requires Inv-loop μ-loop
 ready-requires c κs = search needs
 
-mul-wide : tie.Need-mul-wide Inv-loop μ-loop
-mul-wide c = search needs
-
-element-copy-out-wide : tie.Need-element-copy-out-wide Inv-loop μ-loop
-element-copy-out-wide c = search needs
-
-wide-requires : tie.Need-wide-requires Inv-loop μ-loop
-wide-requires c κs = search needs
+time-at-requires : tie.Need-time-at-requires Inv-loop μ-loop
+time-at-requires c κs = search needs
 
 rest-requires : tie.Need-rest-requires Inv-loop μ-loop
 rest-requires c κs = search needs
 
 loop-less : tie.Need-loop-less Inv-loop μ-loop
 loop-less c =
-    let f = c .before .before .before .before .before .first in
+    let f = c .before .before .before .first in
     rest-less _ _ _ (f .ensures .0) (f .ensures .1) (f .ensures .3) (c .rest .ensures)
 
 loop-again : tie.Need-loop-again Inv-loop μ-loop
 loop-again c =
-    let p = c .before .before .before .before .before .before .before in
+    let p = c .before .before .before .before .before in
     let a = p .before .args in
     let l = p .loop in
-    let f = c .before .before .before .before .before .first in
+    let f = c .before .before .before .first in
     let r = c .before .before .ready in
     let on = walked-on (a .size) (a .latest .now) (a .start .now) (a .before .now) (a .left) (a .t .0) (l .rest) (l .first) (l .least) (l .second) (l .later) (l .inv)
     (p .before .pre .1) (f .result .0) (c .rest .result) (f .ensures .1) (f .ensures .2) (rest-walk _ _ _ (f .ensures .3) (c .rest .ensures)) in
     ⊎-elim
-    (λ w. rw (w .4, w .5, w .6, w .7, w .2 .ensures .0) (on .ahead (sym (w .0 .taken) ∙ r .ensures) (omega (arith, w .3 .taken, w .2 .ensures .0))))
+    (λ w. rw (w .3, w .4, w .5, w .6, w .1 .ensures .0) (on .ahead (sym (w .0 .taken) ∙ r .ensures) (omega (arith, w .2 .taken, w .1 .ensures .0))))
     (⊎-elim
-    (λ w. rw (w .5, w .6, w .7, w .8, w .2 .ensures .0) (on .between (sym (w .0 .taken) ∙ r .ensures)
-    (omega (arith, w .3 .left, w .2 .ensures .0)) (omega (arith, w .4 .taken, w .2 .ensures .0)) (omega (arith, w .2 .ensures .0, w .2 .ensures .1))))
+    (λ w. rw (w .4, w .5, w .6, w .7, w .1 .ensures .0) (on .between (sym (w .0 .taken) ∙ r .ensures)
+    (omega (arith, w .2 .left, w .1 .ensures .0)) (omega (arith, w .3 .taken, w .1 .ensures .0)) (omega (arith, w .1 .ensures .0, w .1 .ensures .1))))
     (⊎-elim
-    (λ w. rw (w .5, w .6, w .7, w .8) (on .third (sym (w .0 .taken) ∙ r .ensures)
-    (omega (arith, w .3 .left, w .2 .ensures .0)) (omega (arith, w .4 .left, w .2 .ensures .0)) (omega (arith, w .2 .ensures .0, w .2 .ensures .1))))
+    (λ w. rw (w .4, w .5, w .6, w .7) (on .third (sym (w .0 .taken) ∙ r .ensures)
+    (omega (arith, w .2 .left, w .1 .ensures .0)) (omega (arith, w .3 .left, w .1 .ensures .0)) (omega (arith, w .1 .ensures .0, w .1 .ensures .1))))
     (λ w. rw (w .1, w .2, w .3, w .4) (on .skipped (sym (w .0 .left) ∙ r .ensures)))))
     (c .before .if1 .came)
 
@@ -86,14 +68,8 @@ next-jobs-spec =
     μ-loop
     loop-holds
     first-requires
-    mul-ready
-    element-copy-out-ready
-    mul-ready-2
-    element-copy-out-ready-2
     ready-requires
-    mul-wide
-    element-copy-out-wide
-    wide-requires
+    time-at-requires
     rest-requires
     loop-less
     loop-again

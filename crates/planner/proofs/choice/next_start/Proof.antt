@@ -20,14 +20,8 @@ abbrev μ-loop : tie.MeasureT-loop
 loop-holds : tie.Need-loop-holds Inv-loop μ-loop
 loop-holds c = (search needs, record { later = c .pre .1; within = omega arith; none = λ i l h. absurd (omega arith) })
 
-mul-wide : tie.Need-mul-wide Inv-loop μ-loop
-mul-wide c = search needs
-
-element-copy-out-wide : tie.Need-element-copy-out-wide Inv-loop μ-loop
-element-copy-out-wide c = search needs
-
-wide-requires : tie.Need-wide-requires Inv-loop μ-loop
-wide-requires c κs = search needs
+time-at-requires : tie.Need-time-at-requires Inv-loop μ-loop
+time-at-requires c κs = search needs
 
 add-i : tie.Need-add-i Inv-loop μ-loop
 add-i c = search needs
@@ -37,9 +31,9 @@ loop-less c = search needs
 
 loop-again : tie.Need-loop-again Inv-loop μ-loop
 loop-again c =
-    let p = c .before .before .before .before .before in
+    let p = c .before .before .before .before in
     let a = p .before .args in
-    let e = c .before .before .wide .ensures .0 in (
+    let e = c .before .before .time-at .ensures .0 in (
       search needs,
       ⊎-elim
           (λ w. rw (w .2, e) (wakes-take (row-in (a .start .now)) (a .t .0) (p .loop .i) (p .loop .next) (p .loop .inv .1) (omega (arith, w .0 .taken, e)) (omega (arith, w .1 .taken, e))))
@@ -62,9 +56,7 @@ next-start-spec =
     Inv-loop
     μ-loop
     loop-holds
-    mul-wide
-    element-copy-out-wide
-    wide-requires
+    time-at-requires
     add-i
     loop-less
     loop-again

@@ -22,33 +22,27 @@ loop-holds c = reached-start _ _ _
 first-requires : tie.Need-first-requires Inv-loop μ-loop
 first-requires c κs = search needs
 
-mul-wide : tie.Need-mul-wide Inv-loop μ-loop
-mul-wide c = search needs
-
-element-copy-out-wide : tie.Need-element-copy-out-wide Inv-loop μ-loop
-element-copy-out-wide c = search needs
-
-wide-requires : tie.Need-wide-requires Inv-loop μ-loop
-wide-requires c κs = search needs
+time-at-requires : tie.Need-time-at-requires Inv-loop μ-loop
+time-at-requires c κs = search needs
 
 add-time : tie.Need-add-time Inv-loop μ-loop
-add-time c = omega (arith, c .before .wide .ensures)
+add-time c = omega (arith, c .before .time-at .ensures)
 
 rest-requires : tie.Need-rest-requires Inv-loop μ-loop
 rest-requires c κs = search needs
 
 loop-less : tie.Need-loop-less Inv-loop μ-loop
 loop-less c =
-    let f = c .before .before .before .before .first in
+    let f = c .before .before .before .first in
     rest-less _ _ _ (f .ensures .0) (f .ensures .1) (f .ensures .3) (c .rest .ensures)
 
 loop-again : tie.Need-loop-again Inv-loop μ-loop
 loop-again c =
-    let p = c .before .before .before .before .before .before in
+    let p = c .before .before .before .before .before in
     let a = p .before .args in
-    let f = c .before .before .before .before .first in
+    let f = c .before .before .before .first in
     let r = rest-walk (p .loop .rest) (c .rest .result) (f .result .0) (f .ensures .3) (c .rest .ensures) in
-    let h = c .before .before .wide .ensures .0 in
+    let h = c .before .before .time-at .ensures .0 in
     ⊎-elim
     (λ w. rw (w .1, h) (reached-more (a .start) (a .set) (a .early .now) (p .loop .time) (p .loop .rest) (p .loop .inv) (f .result .0) (c .rest .result) r (f .ensures .1) (omega (arith, h, w .0 .taken))))
     (λ w. rw (w .1) (reached-same (a .start) (a .set) (a .early .now) (p .loop .time) (p .loop .rest) (p .loop .inv) (f .result .0) (c .rest .result) r (f .ensures .1) (omega (arith, h, w .0 .left))))
@@ -65,9 +59,7 @@ after-spec =
     μ-loop
     loop-holds
     first-requires
-    mul-wide
-    element-copy-out-wide
-    wide-requires
+    time-at-requires
     add-time
     rest-requires
     loop-less

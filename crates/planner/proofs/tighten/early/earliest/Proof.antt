@@ -1,12 +1,10 @@
 -- `planner::tighten::early::earliest` meets its contract.
 -- Assumes nothing.
-use mathlib.Core.Path.{_≡_, sym, _∙_}
 use Prim.Native.Nat.{_-_}
 use native.Mathlib.Omega.{arith}
 use lib.ListN.{getD}
 use Rattle.planner.specs.Inner.Chains.{joined-rows}
 use Rattle.planner.specs.Inner.Early.{After}
-use Rattle.planner.proofs.Join.{rows-at}
 use Rattle.planner.proofs.TightenEarly.{Making, making-start, making-free, making-time, making-next, making-end}
 use borrow.Author.Needs.{needs}
 use Rattle.planner.proofs.tighten.early.earliest.Statement.{statement}
@@ -30,41 +28,25 @@ free-requires c κs =
     let start = p .before .before in
     (start .pre .0, making-free (start .pre .1) (p .loop .inv) (search needs))
 
-mul-joined : tie.Need-mul-joined Inv-loop μ-loop
-mul-joined c = search needs
+row-of-requires : tie.Need-row-of-requires Inv-loop μ-loop
+row-of-requires c κs = search needs
 
-element-copy-out-joined : tie.Need-element-copy-out-joined Inv-loop μ-loop
-element-copy-out-joined c = search needs
-
-joined-requires : tie.Need-joined-requires Inv-loop μ-loop
-joined-requires c κs = search needs
-
-mul-wide : tie.Need-mul-wide Inv-loop μ-loop
-mul-wide c = search needs
-
-element-copy-out-wide : tie.Need-element-copy-out-wide Inv-loop μ-loop
-element-copy-out-wide c = search needs
-
-wide-requires : tie.Need-wide-requires Inv-loop μ-loop
-wide-requires c κs = search needs
+time-at-requires : tie.Need-time-at-requires Inv-loop μ-loop
+time-at-requires c κs = search needs
 
 after-requires : tie.Need-after-requires Inv-loop μ-loop
 after-requires c κs = search needs
 
 -- what is read is the start and the joined row of the job
-timed : (c : tie.After-after Inv-loop μ-loop) → let f = c .before .before .before .before .before .before in let a = f .before .before .before .before .args in
+timed : (c : tie.After-after Inv-loop μ-loop) → let f = c .before .before .before .before in let a = f .before .before .before .before .args in
     After (getD (a .start .now) (f .free .result .0) 0) (getD (joined-rows (a .before .now) (a .second .0) (a .more)) (f .free .result .0) 0) (f .before .before .loop .early) (c .after .result)
 timed c =
     let w = c .before .before in
-    let j = w .before .before in
-    let f = j .before .before in
-    let a = f .before .before .before .before .args in
-    let read : j .joined .result ≡ getD (joined-rows (a .before .now) (a .second .0) (a .more)) (f .free .result .0) 0 = j .joined .ensures ∙ sym (rows-at _ _ _ _ (f .free .ensures .0)) in
-    rw (w .wide .ensures .0, read) at (c .after .ensures)
+    rw (w .time-at .ensures .0, w .before .row-of .ensures) at (c .after .ensures)
 
 cast-early : tie.Need-cast-early Inv-loop μ-loop
 cast-early c =
-    let f = c .before .before .before .before .before .before in
+    let f = c .before .before .before .before in
     let p = f .before .before in
     let start = p .before .before in
     omega (arith, making-time (start .pre .1) (p .loop .inv) (f .free .ensures .1) (timed c))
@@ -92,7 +74,7 @@ loop-less c = search needs
 
 loop-again : tie.Need-loop-again Inv-loop μ-loop
 loop-again c =
-    let f = c .before .before .before .before .before .before .before in
+    let f = c .before .before .before .before .before in
     let p = f .before .before in
     let start = p .before .before in
     making-next (start .pre .1) (p .loop .inv) (f .free .ensures .1) (timed (c .before)) (search needs) _ (c .without .ensures)
@@ -112,12 +94,8 @@ earliest-spec =
     below-requires
     loop-holds
     free-requires
-    mul-joined
-    element-copy-out-joined
-    joined-requires
-    mul-wide
-    element-copy-out-wide
-    wide-requires
+    row-of-requires
+    time-at-requires
     after-requires
     cast-early
     mul-early

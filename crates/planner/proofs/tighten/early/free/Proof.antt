@@ -27,25 +27,19 @@ loop-holds c = ((λ j t. t), (c .pre .1 .0, c .pre .1 .1 .member, c .pre .1 .1))
 first-requires : tie.Need-first-requires Inv-loop μ-loop
 first-requires c κs = has-some _ (c .loop .inv .1 .0) (c .loop .inv .1 .1)
 
-mul-if1 : tie.Need-mul-if1 Inv-loop μ-loop
-mul-if1 c = search needs
+mul-row : tie.Need-mul-row Inv-loop μ-loop
+mul-row c = search needs
 
-element-copy-out-if1 : tie.Need-element-copy-out-if1 Inv-loop μ-loop
-element-copy-out-if1 c = search needs
-
-mul-joined : tie.Need-mul-joined Inv-loop μ-loop
-mul-joined c = search needs
-
-element-copy-out-joined : tie.Need-element-copy-out-joined Inv-loop μ-loop
-element-copy-out-joined c = search needs
+element-copy-out-row : tie.Need-element-copy-out-row Inv-loop μ-loop
+element-copy-out-row c = search needs
 
 joined-requires : tie.Need-joined-requires Inv-loop μ-loop
 joined-requires c κs = search needs
 
 returns : tie.Need-returns Inv-loop μ-loop
 returns c =
-    let f = c .before .before .before .before .before .first in
-    let p = c .before .before .before .before .before .before in
+    let f = c .before .before .before .before .first in
+    let p = c .before .before .before .before .before in
     let a = p .before .args in
     let read : c .before .joined .result ≡ getD (joined-rows (a .before .now) (a .second .0) (a .more)) (f .result .0) 0 = c .before .joined .ensures ∙ sym (rows-at _ _ _ _ (f .ensures .0)) in
     (f .ensures .0, record { member = p .loop .inv .0 (f .result .0) (f .ensures .1); ready = apart-has _ _ (rw read at (c .if2 .taken)) })
@@ -68,7 +62,7 @@ loop-again c =
     let g = p .loop .inv .1 in
     let x : Free (f .result .0) (getD rows (f .result .0) 0) (a .todo) → ⊥ = λ y.
     ⊎-elim
-    (λ v. v .3 .left (apart-is (v .2 .result) (a .todo) (p .before .fits .todo .fits) (λ j t. y .ready j (rw (v .2 .ensures ∙ sym (rows-at (a .before .now) (a .second .0) (a .more) (f .result .0) (f .ensures .0))) at t))))
+    (λ v. v .2 .left (apart-is (v .1 .result) (a .todo) (p .before .fits .todo .fits) (λ j t. y .ready j (rw (v .1 .ensures ∙ sym (rows-at (a .before .now) (a .second .0) (a .more) (f .result .0) (f .ensures .0))) at t))))
     (λ v. v .left (apart-is (getD (a .before .now) (f .result .0) 0) (a .todo) (p .before .fits .todo .fits) (λ j t. y .ready j (rows-keep (a .before .now) (a .second .0) (a .more) (f .result .0) j (f .ensures .0) t))))
     (c .before .if1 .came) in (
       (λ j t. p .loop .inv .0 j (walk-sub (p .loop .rest) (c .rest .result) (f .result .0) w j t)),
@@ -83,10 +77,8 @@ free-spec =
     μ-loop
     loop-holds
     first-requires
-    mul-if1
-    element-copy-out-if1
-    mul-joined
-    element-copy-out-joined
+    mul-row
+    element-copy-out-row
     joined-requires
     returns
     rest-requires

@@ -7,19 +7,13 @@ use borrow.Author.Needs.{needs}
 use Rattle.planner.proofs.tighten.rule.lowered.Statement.{statement}
 use Rattle.planner.proofs.tighten.rule.lowered.Tie as tie
 
-mul-wide : tie.Need-mul-wide
-mul-wide c = search needs
-
-element-copy-out-wide : tie.Need-element-copy-out-wide
-element-copy-out-wide c = search needs
-
-wide-requires : tie.Need-wide-requires
-wide-requires c κs = search needs
+time-at-requires : tie.Need-time-at-requires
+time-at-requires c κs = search needs
 
 returns : tie.Need-returns
 returns c =
-    let a = c .before .before .before .args in
-    (search needs, (λ J early row x e. ruled-shut J early row (x .job) e (a .d) (omega (arith, x .holds, x .begins, c .before .wide .ensures .0))))
+    let a = c .before .before .args in
+    (search needs, (λ J early row x e. ruled-shut J early row (x .job) e (a .d) (omega (arith, x .holds, x .begins, c .before .time-at .ensures .0))))
 
 pressure-requires : tie.Need-pressure-requires
 pressure-requires c κs = search needs
@@ -52,9 +46,7 @@ pub lowered-spec : {M : Type 1} → statement M
 lowered-spec =
     tie.close
     (tie.spec
-    mul-wide
-    element-copy-out-wide
-    wide-requires
+    time-at-requires
     returns
     pressure-requires
     add-half
