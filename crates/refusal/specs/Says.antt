@@ -1,20 +1,19 @@
 -- An answer's number and value, and the class of a number (01, Numbers of refusal).
 -- Assumes nothing.
-use mathlib.Core.Path.{_≡_}
 use Prim.Native.Nat.{ℕ, _≤_}
 use mathlib.Core.Bool.{cond, _||_}
 use lib.Dec.{eqb}
-use Rattle.planner.specs.declared.refusal.Answer.{Answer}
-use Rattle.planner.specs.declared.refusal.Answer.the-variants.{Accepted, Refused}
-use Rattle.planner.specs.declared.refusal.Class.{Class}
-use Rattle.planner.specs.declared.refusal.Class.the-variants.{Room, Request, Plan, Form, None}
+use Rattle.refusal.specs.declared.Answer.{Answer}
+use Rattle.refusal.specs.declared.Answer.the-variants.{Accepted, Refused}
+use Rattle.refusal.specs.declared.Class.{Class}
+use Rattle.refusal.specs.declared.Class.the-variants.{Room, Request, Plan, Form, None}
 
--- accepted is 0 and what is answered; refused is the number, which is not 0, and what is returned with it
-abbrev pub Says : Answer → ℕ → ℕ → Type 0
-Says (Accepted value) n v = (n ≡ 0) × (v ≡ value)
-Says (Refused number value) n v = (1 ≤ number) × (n ≡ number) × (v ≡ value)
+-- the number and the value of every answer, of which a promise says P: accepted is 0 and what is answered, refused is the number, which is not 0, and what is returned with it (01, Code places: "a definition gives this paper's number and values for every case of the enum")
+abbrev pub Says : Answer → (ℕ → ℕ → Type 0) → Type 0
+Says (Accepted value) P = P 0 value
+Says (Refused number value) P = (1 ≤ number) × P number value
 
--- the number of the refusal, and 0 where nothing is refused
+-- the number, and 0 where nothing is refused
 abbrev pub number-of : Answer → ℕ
 number-of (Accepted value) = 0
 number-of (Refused number value) = number

@@ -2,11 +2,19 @@
 -- Assumes nothing.
 use mathlib.Core.Logic.{_⊎_, inl, inr, ⊎-elim}
 use mathlib.Core.Path.{_≡_, refl, sym, subst, _∙_}
-use Prim.Native.Nat.{ℕ, _<_}
+use Prim.Native.Nat.{ℕ, _≤_, _<_}
+use native.Mathlib.Omega.{arith}
 use native.Mathlib.Nat.{le-antisymm}
-use Rattle.schedule.proofs.Tests.{le-by}
-use Rattle.planner.specs.Table.{Checks, check, _then_, places, Clear, Refuses, Among, Table, refused, passed}
-use Rattle.planner.specs.Unless.{One}
+use native.Mathlib.Decide.{decLe}
+use Rattle.refusal.specs.Table.{Checks, check, _then_, places, Clear, Refuses, Among, Table, refused, passed, One}
+
+-- a number that is not above another
+le-by : (a b : ℕ) → (b < a → ⊥) → a ≤ b
+le-by a b f = go (decLe a b)
+  where
+    go : Dec (a ≤ b) → a ≤ b
+    go (yes h) = h
+    go (no h) = absurd (f (omega arith))
 
 -- ---- one outcome
 -- checks that refuse are not clear

@@ -1,15 +1,15 @@
--- `planner::refusal::class_of` meets its contract: each arm is a range of numbers, at each of which the table computes.
+-- `refusal::class_of` meets its contract: each arm is a range of numbers, at each of which the table computes.
 -- Assumes nothing.
 use Prim.Native.Nat.{ℕ, _≤_}
 use native.Mathlib.Omega.{arith}
 use mathlib.Core.Path.{_≡_, refl}
 use borrow.Author.Tests.{ne-eqb}
-use Rattle.planner.specs.declared.refusal.Class.{Class}
-use Rattle.planner.specs.declared.refusal.Class.the-variants.{Room, Request, Form, None}
-use Rattle.planner.specs.Answer.{class-of}
-use Rattle.planner.proofs.Ranges.{within}
-use Rattle.planner.proofs.refusal.class_of.Statement.{statement}
-use Rattle.planner.proofs.refusal.class_of.Tie as tie
+use Rattle.refusal.specs.declared.Class.{Class}
+use Rattle.refusal.specs.declared.Class.the-variants.{Room, Request, Form, None}
+use Rattle.refusal.specs.Says.{class-of}
+use Rattle.refusal.proofs.Ranges.{within}
+use Rattle.refusal.proofs.class_of.Statement.{statement}
+use Rattle.refusal.proofs.class_of.Tie as tie
 
 -- the class of m, unless m is k
 abbrev Unless : ℕ → Class → ℕ → Type 0
