@@ -11,20 +11,20 @@ use lib.ListN.{length, getD, drop, List·getD-append}
 use lib.Seq.{getD-append-add, getD-drop}
 use Rattle.schedule.specs.Listed.{Listed, written}
 use Rattle.schedule.proofs.Tests.{cond-case}
-use Rattle.planner.specs.declared.book.Book.{Book}
+use Rattle.book.specs.Told.{Book}
 use Rattle.planner.specs.declared.book.Request.{Request}
 use Rattle.planner.specs.declared.book.Request.the-variants.{Job, Before, Earlier}
 use Rattle.planner.specs.declared.book.Applied.{Applied}
-use Rattle.planner.specs.declared.refusal.Answer.{Answer}
-use Rattle.planner.specs.declared.refusal.Answer.the-variants.{Accepted, Refused}
-use Rattle.planner.specs.Answer.{Says, number-of}
-use Rattle.planner.specs.Told.{Made}
+use Rattle.refusal.specs.declared.Answer.{Answer}
+use Rattle.refusal.specs.declared.Answer.the-variants.{Accepted, Refused}
+use Rattle.refusal.specs.Says.{Says, number-of}
+use Rattle.book.specs.Told.{Made}
 use Rattle.planner.specs.Unless.{Unless, refused, passed}
 use Rattle.planner.specs.Outcome.{request-checks, accepts-with, grow, Turned, Grown, Applies}
 use Rattle.planner.specs.Judged.{list-of, list-checks, TurnedDown, Fitted, Judges}
 use Rattle.planner.specs.declared.refusal.Placed.the-variants as placed
 use Rattle.planner.specs.Planned.{Places}
-use Rattle.planner.proofs.Laws.{among-each, table-all}
+use Rattle.refusal.proofs.Table.{among-each, table-all}
 use Rattle.planner.proofs.Judged.{list-each}
 use Rattle.planner.proofs.Once.{unless-all, request-each}
 use Rattle.jobfile.specs.declared.record.Asked.{Asked}

@@ -14,19 +14,19 @@ use Rattle.schedule.proofs.Tests.{cond-case}
 use Rattle.schedule.proofs.Timed.{no-plan-no-timed}
 use Rattle.schedule.proofs.Clock.{plan-clock, plan-clock-meets, clocked-iff-plan}
 use Rattle.schedule.proofs.Loop.{bytes-length}
-use Rattle.planner.specs.declared.book.Book.{Book}
+use Rattle.book.specs.Told.{Book}
 use Rattle.planner.specs.declared.book.Request.{Request}
 use Rattle.planner.specs.declared.book.Request.the-variants.{Job, Before, Earlier}
 use Rattle.planner.specs.declared.book.Applied.{Applied}
-use Rattle.planner.specs.declared.refusal.Answer.{Answer}
-use Rattle.planner.specs.declared.refusal.Answer.the-variants.{Accepted, Refused}
-use Rattle.planner.specs.Told.{jobs-of, latest-of, Told}
+use Rattle.refusal.specs.declared.Answer.{Answer}
+use Rattle.refusal.specs.declared.Answer.the-variants.{Accepted, Refused}
+use Rattle.book.specs.Told.{jobs-of, latest-of, Told}
 use Rattle.planner.specs.Unless.{refused, passed}
-use Rattle.planner.specs.Answer.{Says}
+use Rattle.refusal.specs.Says.{Says}
 use Rattle.planner.specs.Outcome.{Planned, sound-checks, plan-check, accepts-with, Turned, Grown, Outcome, grow}
 use Rattle.planner.specs.Judged.{list-of, rows-checks, TurnedDown, Fitted, Judges}
 use Rattle.planner.specs.Planned.{plan-of, finish-of, bytes-of, Plans, core-of}
-use Rattle.planner.proofs.Laws.{table-last}
+use Rattle.refusal.proofs.Table.{table-last}
 use Rattle.planner.proofs.Once.{request-each}
 use Rattle.planner.proofs.Judged.{list-each}
 use Rattle.planner.proofs.Handed.{plan-shown}

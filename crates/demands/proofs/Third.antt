@@ -15,21 +15,21 @@ use Rattle.schedule.specs.Make.{slots, bytes}
 use Rattle.schedule.specs.Listed.{Listed}
 use Rattle.schedule.specs.Book.{Holds}
 use Rattle.schedule.proofs.Same.{finish-one, bytes-one}
-use Rattle.planner.specs.declared.book.Book.{Book}
+use Rattle.book.specs.Told.{Book}
 use Rattle.planner.specs.declared.book.Request.{Request}
 use Rattle.planner.specs.declared.book.Request.the-variants.{Job, Before, Earlier}
 use Rattle.planner.specs.declared.book.Applied.{Applied}
-use Rattle.planner.specs.declared.refusal.Answer.{Answer}
-use Rattle.planner.specs.declared.refusal.Answer.the-variants.{Accepted, Refused}
-use Rattle.planner.specs.Told.{jobs-of, latest-of, Told}
+use Rattle.refusal.specs.declared.Answer.{Answer}
+use Rattle.refusal.specs.declared.Answer.the-variants.{Accepted, Refused}
+use Rattle.book.specs.Told.{jobs-of, latest-of, Told}
 use Rattle.planner.specs.Unless.{refused, passed}
 use Rattle.planner.specs.Outcome.{Planned, Sound, request-checks, accepts-with, Turned, Grown, Outcome, grow, Run}
 use Rattle.planner.specs.Judged.{first-of, second-of, pairs-of, list-of, Misshapen, Judges}
 use Rattle.planner.specs.Planned.{finish-of, bytes-of, Plans}
 use Rattle.planner.proofs.Once.{run-told, run-one}
 use Rattle.planner.proofs.Judged.{list-is-requests}
-use Rattle.planner.proofs.Laws.{table-caught}
-use Rattle.planner.proofs.Says.{says-refused}
+use Rattle.refusal.proofs.Table.{table-caught}
+use Rattle.refusal.proofs.Says.{says-refused}
 use Rattle.planner.proofs.Unchanged.{order-unchanged, deadline-unchanged}
 use Rattle.demands.specs.Demands.{Demand3, Unchanged}
 use Rattle.demands.proofs.First.{not-both}

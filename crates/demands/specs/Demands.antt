@@ -14,14 +14,14 @@ use Rattle.schedule.specs.Make.{slots, bytes}
 use Rattle.schedule.specs.Listed.{Listed, Chain, Reads, written}
 use Rattle.schedule.specs.Book.{Holds}
 use Rattle.schedule.specs.declared.JobIndex.{JobIndex}
-use Rattle.planner.specs.declared.book.Book.{Book}
+use Rattle.book.specs.Told.{Book}
 use Rattle.planner.specs.declared.book.Request.{Request}
 use Rattle.planner.specs.declared.book.Request.the-variants.{Job, Before, Earlier}
 use Rattle.planner.specs.declared.book.Applied.{Applied}
-use Rattle.planner.specs.declared.refusal.Answer.{Answer}
-use Rattle.planner.specs.declared.refusal.Answer.the-variants.{Accepted, Refused}
+use Rattle.refusal.specs.declared.Answer.{Answer}
+use Rattle.refusal.specs.declared.Answer.the-variants.{Accepted, Refused}
 use Rattle.planner.specs.declared.refusal.Placed.the-variants as placed
-use Rattle.planner.specs.Told.{jobs-of, latest-of, Told, Made, nothing-listed}
+use Rattle.book.specs.Told.{jobs-of, latest-of, Told, Made, nothing-listed}
 use Rattle.planner.specs.Outcome.{Planned, Sound, Applies, grow, Run}
 use Rattle.planner.specs.Judged.{list-of, Misshapen, Judges}
 use Rattle.planner.specs.Planned.{Plans, Places}

@@ -3,11 +3,11 @@
 use mathlib.Core.List.{List}
 use mathlib.Core.Path.{_≡_, sym, ap, _∙_}
 use Prim.Native.Nat.{ℕ}
-use Rattle.planner.specs.declared.book.Book.{Book}
+use Rattle.book.specs.Told.{Book}
 use Rattle.planner.specs.declared.book.Request.{Request}
-use Rattle.planner.specs.declared.refusal.Answer.{Answer}
-use Rattle.planner.specs.Answer.{number-of, value-of}
-use Rattle.planner.specs.Told.{Made}
+use Rattle.refusal.specs.declared.Answer.{Answer}
+use Rattle.refusal.specs.Says.{number-of, value-of}
+use Rattle.book.specs.Told.{Made}
 use Rattle.planner.proofs.Once.{applies-only}
 use Rattle.planner.proofs.Judged.{judges-only}
 use Rattle.planner.proofs.Handed.{plans-only, places-only}

@@ -3,9 +3,9 @@
 use mathlib.Core.List.{List}
 use mathlib.Core.Path.{_≡_}
 use Prim.Native.Nat.{ℕ}
-use Rattle.planner.specs.declared.book.Book.{Book}
+use Rattle.book.specs.Told.{Book}
 use Rattle.planner.specs.declared.book.Request.{Request}
-use Rattle.planner.specs.declared.refusal.Answer.{Answer}
+use Rattle.refusal.specs.declared.Answer.{Answer}
 use Rattle.planner.specs.declared.refusal.Placed.{Placed}
 use Rattle.planner.specs.Outcome.{Applies}
 use Rattle.planner.specs.Planned.{Plans, Places}

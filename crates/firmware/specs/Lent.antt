@@ -2,12 +2,12 @@
 -- Assumes nothing.
 use mathlib.Core.Path.{_≡_}
 use Prim.Native.Nat.{ℕ}
-use Rattle.planner.specs.declared.refusal.Answer.{Answer}
-use Rattle.planner.specs.declared.refusal.Class.{Class}
-use Rattle.planner.specs.declared.refusal.Class.the-variants.{Room, Request, Plan, Form, None}
+use Rattle.refusal.specs.declared.Answer.{Answer}
+use Rattle.refusal.specs.declared.Class.{Class}
+use Rattle.refusal.specs.declared.Class.the-variants.{Room, Request, Plan, Form, None}
 use Rattle.planner.specs.declared.refusal.Placed.{Placed}
 use Rattle.planner.specs.declared.refusal.Placed.the-variants.{At, Refused}
-use Rattle.planner.specs.Answer.{number-of, value-of}
+use Rattle.refusal.specs.Says.{number-of, value-of}
 use Rattle.jobfile.specs.declared.reader.Event.{Event}
 use Rattle.jobfile.specs.declared.reader.Event.the-variants as event
 

@@ -3,7 +3,7 @@ use crate::lent;
 use jobfile::Event;
 use planner::Book;
 ghost use mathlib.Core.Path.{_≡_};
-ghost use Rattle.planner.specs.Told.{Made, held};
+ghost use Rattle.book.specs.Told.{Made, held};
 ghost use Rattle.firmware.specs.Lent.{event-number, event-value};
 ghost use Rattle.firmware.specs.Calls.{ReadsOne, WritesFile};
 

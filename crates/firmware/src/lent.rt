@@ -1,7 +1,7 @@
 // An answer as two numbers.
 use planner::Answer;
 ghost use mathlib.Core.Path.{_≡_};
-ghost use Rattle.planner.specs.Answer.{number-of, value-of};
+ghost use Rattle.refusal.specs.Says.{number-of, value-of};
 
 // The number of the refusal, and 0 where nothing is refused.
 pub fn number(answer: Answer) -> u8

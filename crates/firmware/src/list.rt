@@ -3,7 +3,7 @@ use crate::lent::number;
 use crate::lent::value;
 use planner::Class;
 ghost use mathlib.Core.Path.{_≡_};
-ghost use Rattle.planner.specs.Answer.{class-of};
+ghost use Rattle.refusal.specs.Says.{class-of};
 ghost use Rattle.firmware.specs.Lent.{class-number};
 ghost use Rattle.firmware.specs.Calls.{JudgesList};
 

@@ -4,7 +4,7 @@ use crate::lent::value;
 use planner::Book;
 use planner::Placed;
 use schedule::JobIndex;
-ghost use Rattle.planner.specs.Told.{Made, held};
+ghost use Rattle.book.specs.Told.{Made, held};
 ghost use Rattle.firmware.specs.Lent.{seat};
 ghost use Rattle.firmware.specs.Calls.{MakesPlan, FindsPlace};
 

@@ -3,7 +3,7 @@ use crate::lent::number;
 use crate::lent::value;
 use planner::Request;
 use schedule::JobIndex;
-ghost use Rattle.planner.specs.Told.{Told, Made, held, nothing-listed};
+ghost use Rattle.book.specs.Told.{Told, Made, held, nothing-listed};
 ghost use Rattle.firmware.specs.Calls.{Asks};
 
 #[no_mangle]

@@ -14,12 +14,12 @@ use Rattle.schedule.specs.Count.{one, count}
 use Rattle.schedule.specs.Listed.{Listed}
 use Rattle.schedule.proofs.Counting.{count-inject, count-longer, count-lt, count-bound}
 use Rattle.schedule.proofs.Rows.{sum, sum-mono}
-use Rattle.planner.specs.declared.book.Book.{Book}
+use Rattle.book.specs.Told.{Book}
 use Rattle.planner.specs.declared.book.Request.{Request}
-use Rattle.planner.specs.Sets.{has}
-use Rattle.planner.specs.Told.{Told}
-use Rattle.planner.proofs.Bits.{ones-count}
-use Rattle.planner.proofs.Same.{below-pow}
+use Rattle.sets.specs.Sets.{has}
+use Rattle.book.specs.Told.{Told}
+use Rattle.sets.proofs.Bits.{ones-count}
+use Rattle.book.proofs.Same.{below-pow}
 use Rattle.jobfile.specs.Write.{gather, job-asked, order-asked, followers-asked, asks-of, file-of}
 use Rattle.jobfile.specs.Inner.Write.{pairs-in}
 use Rattle.jobfile.proofs.Spelled.{spelled-length}

@@ -12,12 +12,12 @@ use Rattle.schedule.specs.Listed.{Listed, ordered, Chain, link, join, written, 
 use Rattle.schedule.proofs.Rows.{put-all}
 use Rattle.schedule.proofs.Chains.{reads-closed, reads-loopless, ordered-append, getD-put}
 use Rattle.schedule.proofs.Made.{row-has-plan}
-use Rattle.planner.specs.declared.book.Book.{Book}
+use Rattle.book.specs.Told.{Book}
 use Rattle.planner.specs.declared.book.Request.{Request}
 use Rattle.planner.specs.declared.book.Request.the-variants.{Job, Before, Earlier}
 use Rattle.planner.specs.declared.book.Applied.{Applied}
-use Rattle.planner.specs.Told.{jobs-of, latest-of, Told, nothing-listed}
-use Rattle.planner.proofs.Laws.{table-free, table-rest}
+use Rattle.book.specs.Told.{jobs-of, latest-of, Told, nothing-listed}
+use Rattle.refusal.proofs.Table.{table-free, table-rest}
 use Rattle.planner.proofs.Requests.{among-planned}
 use Rattle.planner.specs.Outcome.{Planned, Grown, Judged, Outcome, grow}
 

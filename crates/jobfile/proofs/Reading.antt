@@ -5,8 +5,8 @@ use mathlib.Core.Path.{_≡_, sym, ap, _∙_}
 use Prim.Native.Nat.{ℕ, _+_, _≤_}
 use native.Mathlib.Omega.{arith}
 use lib.ListN.{length}
-use Rattle.planner.specs.declared.book.Book.{Book}
-use Rattle.planner.specs.Told.{Made}
+use Rattle.book.specs.Told.{Book}
+use Rattle.book.specs.Told.{Made}
 use Rattle.planner.specs.Unless.{passed, One}
 use Rattle.planner.proofs.Once.{unless-one, applies-only}
 use Rattle.jobfile.specs.declared.record.Asked.{Asked}

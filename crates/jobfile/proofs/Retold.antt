@@ -13,11 +13,11 @@ use Rattle.schedule.specs.Listed.{Listed, ordered, link, written, with-job, wit
 use Rattle.schedule.proofs.Chains.{ordered-append}
 use Rattle.schedule.proofs.Grow.{latest-keeps}
 use Rattle.schedule.proofs.Search.{split-last}
-use Rattle.planner.specs.declared.book.Book.{Book}
+use Rattle.book.specs.Told.{Book}
 use Rattle.planner.specs.declared.book.Request.{Request}
 use Rattle.planner.specs.declared.book.Request.the-variants.{Job, Before, Earlier}
-use Rattle.planner.specs.Sets.{has}
-use Rattle.planner.specs.Told.{jobs-of, latest-of, Told, nothing-listed}
+use Rattle.sets.specs.Sets.{has}
+use Rattle.book.specs.Told.{jobs-of, latest-of, Told, nothing-listed}
 use Rattle.planner.specs.Outcome.{grow}
 use Rattle.jobfile.specs.Write.{gather, job-asked, order-asked, followers-asked, asks-of}
 use Rattle.jobfile.proofs.Part.{Part, Next, part-nothing, next-part, part-chain, loopless, start-low, latest-high}

@@ -8,18 +8,18 @@ use native.Mathlib.Omega.{arith}
 use lib.ListN.{length, getD, take, replicate, length-append}
 use lib.Seq.{getD-append-add, take-at}
 use Rattle.schedule.specs.Listed.{Listed}
-use Rattle.planner.specs.declared.book.Book.{Book}
+use Rattle.book.specs.Told.{Book}
 use Rattle.planner.specs.declared.book.Request.{Request}
 use Rattle.planner.specs.declared.book.Request.the-variants.{Job, Before, Earlier}
-use Rattle.planner.specs.declared.refusal.Answer.{Answer}
-use Rattle.planner.specs.declared.refusal.Answer.the-variants.{Accepted}
-use Rattle.planner.specs.Answer.{number-of}
-use Rattle.planner.specs.Told.{Told, Made, nothing-listed}
+use Rattle.refusal.specs.declared.Answer.{Answer}
+use Rattle.refusal.specs.declared.Answer.the-variants.{Accepted}
+use Rattle.refusal.specs.Says.{number-of}
+use Rattle.book.specs.Told.{Told, Made, nothing-listed}
 use Rattle.planner.specs.Unless.{refused, passed}
 use Rattle.planner.specs.Outcome.{grow}
 use Rattle.planner.proofs.Judged.{unless-free}
-use Rattle.planner.proofs.Same.{told-one}
-use Rattle.planner.proofs.Says.{says-accepted}
+use Rattle.book.proofs.Same.{told-one}
+use Rattle.refusal.proofs.Says.{says-accepted}
 use Rattle.jobfile.specs.declared.record.Asked.the-variants.{Known}
 use Rattle.jobfile.specs.declared.reader.Event.the-variants as event
 use Rattle.jobfile.specs.declared.reader.Step.{Step}

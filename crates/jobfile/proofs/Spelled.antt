@@ -13,7 +13,7 @@ use lib.Seq.{sets, length-sets}
 use Rattle.schedule.proofs.Tests.{le-or-lt}
 use Rattle.planner.specs.declared.book.Request.{Request}
 use Rattle.planner.specs.declared.book.Request.the-variants.{Job, Before, Earlier}
-use Rattle.planner.specs.Sets.{has}
+use Rattle.sets.specs.Sets.{has}
 use Rattle.jobfile.specs.Record.{OR, record-of, spell}
 use Rattle.jobfile.specs.Write.{gather, spelled, order-asked}
 use Rattle.jobfile.specs.Inner.Write.{Continues}

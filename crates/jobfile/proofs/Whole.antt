@@ -7,10 +7,10 @@ use native.Mathlib.Numerals.{add-one}
 use native.Mathlib.Omega.{arith}
 use lib.ListN.{length, set, drop, length-append, length-drop}
 use lib.Seq.{drop-cons, set-append-seam}
-use Rattle.planner.specs.declared.book.Book.{Book}
-use Rattle.planner.specs.declared.refusal.Answer.{Answer}
-use Rattle.planner.specs.Answer.{number-of}
-use Rattle.planner.specs.Told.{Made}
+use Rattle.book.specs.Told.{Book}
+use Rattle.refusal.specs.declared.Answer.{Answer}
+use Rattle.refusal.specs.Says.{number-of}
+use Rattle.book.specs.Told.{Made}
 use Rattle.planner.specs.Unless.{refused, passed, One}
 use Rattle.schedule.proofs.Tests.{le-by}
 use Rattle.planner.proofs.Once.{unless-one}

@@ -4,10 +4,10 @@ use mathlib.Core.List.{List, [], _∷_, _++_}
 use mathlib.Core.Path.{_≡_}
 use Prim.Native.Nat.{ℕ, _/_, _<_, _≤_}
 use lib.ListN.{length, drop}
-use Rattle.planner.specs.declared.book.Book.{Book}
-use Rattle.planner.specs.declared.refusal.Answer.{Answer}
-use Rattle.planner.specs.Answer.{number-of}
-use Rattle.planner.specs.Told.{Made}
+use Rattle.book.specs.Told.{Book}
+use Rattle.refusal.specs.declared.Answer.{Answer}
+use Rattle.refusal.specs.Says.{number-of}
+use Rattle.book.specs.Told.{Made}
 use Rattle.planner.specs.Unless.{Unless}
 use Rattle.jobfile.specs.declared.reader.Event.the-variants as event
 use Rattle.jobfile.specs.declared.reader.Step.{Step}

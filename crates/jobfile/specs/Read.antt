@@ -4,10 +4,10 @@ use mathlib.Core.List.{List}
 use mathlib.Core.Path.{_≡_}
 use Prim.Native.Nat.{ℕ, _+_, _<_}
 use lib.ListN.{length}
-use Rattle.planner.specs.declared.book.Book.{Book}
+use Rattle.book.specs.Told.{Book}
 use Rattle.planner.specs.declared.book.Request.{Request}
-use Rattle.planner.specs.declared.refusal.Answer.{Answer}
-use Rattle.planner.specs.Told.{Made}
+use Rattle.refusal.specs.declared.Answer.{Answer}
+use Rattle.book.specs.Told.{Made}
 use Rattle.planner.specs.Unless.{Unless}
 use Rattle.planner.specs.Outcome.{Applies}
 use Rattle.jobfile.specs.declared.record.Asked.{Asked}

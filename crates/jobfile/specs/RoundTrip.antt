@@ -4,7 +4,7 @@ use mathlib.Core.List.{List}
 use mathlib.Core.Path.{_≡_}
 use Prim.Native.Nat.{ℕ}
 use lib.ListN.{length, replicate}
-use Rattle.planner.specs.declared.book.Book.{Book}
+use Rattle.book.specs.Told.{Book}
 use Rattle.jobfile.specs.declared.reader.Event.the-variants as event
 use Rattle.jobfile.specs.declared.reader.Step.{Step}
 use Rattle.jobfile.specs.Read.{stays}

@@ -5,8 +5,8 @@ use crate::reader::Step;
 use planner::Answer;
 use planner::Book;
 ghost use mathlib.Core.Path.{_≡_};
-ghost use Rattle.planner.specs.Answer.{number-of};
-ghost use Rattle.planner.specs.Told.{Made};
+ghost use Rattle.refusal.specs.Says.{number-of};
+ghost use Rattle.book.specs.Told.{Made};
 ghost use Rattle.jobfile.specs.File.{ReadsFile};
 
 // Record after record from offset 0, up to the step that ends it; byte i of `answers` gets the number of record i, 0 where it is accepted.

@@ -3,7 +3,7 @@ use crate::record;
 use crate::record::Asked;
 use planner::Answer;
 use planner::Book;
-ghost use Rattle.planner.specs.Told.{Made, held};
+ghost use Rattle.book.specs.Told.{Made, held};
 ghost use Rattle.jobfile.specs.Read.{ReadsRecord};
 
 pub struct Step {

@@ -8,7 +8,7 @@ ghost use Prim.Native.Nat.{_+_, _*_, _≤_, _<_};
 ghost use lib.Count.{ones};
 ghost use lib.ListN.{length};
 ghost use lib.Seq.{sets};
-ghost use Rattle.planner.specs.Told.{Made};
+ghost use Rattle.book.specs.Told.{Made};
 ghost use Rattle.jobfile.specs.Write.{gather, spelled, job-asked, followers-asked, WritesBook};
 ghost use Rattle.jobfile.specs.Inner.Write.{pairs-in, Continues};
 

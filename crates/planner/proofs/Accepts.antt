@@ -17,17 +17,17 @@ use Rattle.schedule.proofs.Tests.{test, le-or-lt}
 use Rattle.schedule.proofs.Exist.{plan-has-latest}
 use Rattle.schedule.proofs.Early.{earliest-one}
 use Rattle.schedule.proofs.Renumber.{latest-along}
-use Rattle.planner.specs.declared.book.Book.{Book}
+use Rattle.book.specs.Told.{Book}
 use Rattle.planner.specs.declared.book.Request.{Request}
 use Rattle.planner.specs.declared.book.Request.the-variants.{Job, Before}
 use Rattle.planner.specs.declared.book.Applied.{Applied}
-use Rattle.planner.specs.Sets.{has}
-use Rattle.planner.specs.Told.{jobs-of, latest-of, row-in, Told}
+use Rattle.sets.specs.Sets.{has}
+use Rattle.book.specs.Told.{jobs-of, latest-of, row-in, Told}
 use Rattle.planner.specs.Outcome.{Planned, acceptance, Applies}
 use Rattle.planner.specs.Inner.Chains.{Links, entries, joined-rows}
-use Rattle.planner.proofs.Bits.{only, with-has}
+use Rattle.sets.proofs.Bits.{only, with-has}
 use Rattle.schedule.proofs.Same.{reads-one, plan-one}
-use Rattle.planner.proofs.Laws.{then-table}
+use Rattle.refusal.proofs.Table.{then-table}
 use Rattle.planner.proofs.Once.{applies-by}
 use Rattle.planner.proofs.Step.{Grows, size-is, job-grows, order-grows, followed-told, told-judged, Tight, with-latest, tight-judged}
 use Rattle.planner.proofs.Join.{entries-length, entries-at, rows-long, joined-links}

@@ -15,10 +15,10 @@ use lib.ListN.{getD}
 use Rattle.schedule.specs.Make.{choose}
 use Rattle.schedule.proofs.Loop.{choose-suc, choose-ext}
 use Rattle.schedule.proofs.Tests.{and-fst, same-test, le-by, le-or-lt}
-use Rattle.planner.specs.Sets.{has}
-use Rattle.planner.specs.Told.{row-in}
+use Rattle.sets.specs.Sets.{has}
+use Rattle.book.specs.Told.{row-in}
 use Rattle.planner.specs.Inner.Choice.{begins, ready-by, others, Chooses, Wakes}
-use Rattle.planner.proofs.Bits.{empty-has, walk-sub, walk-split, walk-out}
+use Rattle.sets.proofs.Bits.{empty-has, walk-sub, walk-split, walk-out}
 
 -- the choice among the numbers below n, with its key; 65536, above every key, where there is none
 pub record Found (none : ℕ) (key : ℕ → ℕ) (ok : ℕ → Bool) (n c value : ℕ) : Type 0 where

@@ -17,12 +17,12 @@ use Rattle.schedule.proofs.Loop.{bytes-length, bytes-at}
 use Rattle.schedule.proofs.Rows.{greatest-least}
 use Rattle.schedule.proofs.Chains.{reads-closed}
 use Rattle.schedule.proofs.Theorem as theorem
-use Rattle.planner.specs.declared.book.Book.{Book}
+use Rattle.book.specs.Told.{Book}
 use Rattle.planner.specs.declared.layout.Layout.{Layout}
-use Rattle.planner.specs.declared.refusal.Answer.{Answer}
-use Rattle.planner.specs.declared.refusal.Answer.the-variants.{Accepted}
+use Rattle.refusal.specs.declared.Answer.{Answer}
+use Rattle.refusal.specs.declared.Answer.the-variants.{Accepted}
 use Rattle.planner.specs.Unless.{refused, passed, One}
-use Rattle.planner.specs.Told.{jobs-of, latest-of, Told, Made}
+use Rattle.book.specs.Told.{jobs-of, latest-of, Told, Made}
 use Rattle.planner.specs.Planned.{plan-of, seat-of, finish-of, bytes-of, Plans, core-of, Places}
 use Rattle.planner.specs.Inner.Layout.{Layable, Lays}
 use Rattle.planner.specs.Inner.Planned.{seated, Writable, core-in}

@@ -13,9 +13,9 @@ use Rattle.schedule.specs.Jobs.{Jobs}
 use Rattle.schedule.specs.Plan.{HasPlan}
 use Rattle.schedule.specs.Times.{Earliest, Latest}
 use Rattle.schedule.proofs.Tests.{le-or-lt}
-use Rattle.planner.specs.declared.refusal.Answer.the-variants.{Accepted, Refused}
-use Rattle.planner.specs.Sets.{has}
-use Rattle.planner.specs.Told.{row-in}
+use Rattle.refusal.specs.declared.Answer.the-variants.{Accepted, Refused}
+use Rattle.sets.specs.Sets.{has}
+use Rattle.book.specs.Told.{row-in}
 use Rattle.planner.specs.Inner.Tighten.{Tightenable, Tightens}
 use Rattle.planner.specs.Inner.List.{Hands, Settleable, HandsOut, none, fits}
 use Rattle.planner.proofs.Step.{zeros}

@@ -13,12 +13,12 @@ use lib.ListN.{length, getD, List·getD-eq-default}
 use lib.Seq.{ext-getD}
 use Rattle.schedule.proofs.Tests.{le-or-lt, cond-case, or-left, or-right, or-split, eq→eqb}
 use Rattle.schedule.specs.Listed.{Listed, with-order}
-use Rattle.planner.specs.declared.book.Book.{Book}
-use Rattle.planner.specs.Sets.{has}
-use Rattle.planner.specs.Told.{held, Told}
+use Rattle.book.specs.Told.{Book}
+use Rattle.sets.specs.Sets.{has}
+use Rattle.book.specs.Told.{held, Told}
 use Rattle.planner.specs.Inner.Chains.{Links, joined-of, entries, joined-rows}
 use Rattle.planner.specs.Inner.Tighten.{Tightenable, Tightens}
-use Rattle.planner.proofs.Bits.{or-has}
+use Rattle.sets.proofs.Bits.{or-has}
 use Rattle.planner.proofs.Step.{Grows, order-grows, none-has, false-T}
 
 -- what a joined row has

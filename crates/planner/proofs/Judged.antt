@@ -10,14 +10,14 @@ use lib.ListN.{length, getD}
 use lib.Seq.{ext-getD}
 use Rattle.schedule.specs.Listed.{Listed, Chain, link, join, Looped, Formed, written}
 use Rattle.schedule.proofs.Tests.{le-or-lt, le-by}
-use Rattle.planner.specs.declared.book.Book.{Book}
-use Rattle.planner.specs.declared.refusal.Answer.the-variants.{Accepted, Refused}
-use Rattle.planner.specs.Told.{Told, jobs-of, latest-of, row-in}
+use Rattle.book.specs.Told.{Book}
+use Rattle.refusal.specs.declared.Answer.the-variants.{Accepted, Refused}
+use Rattle.book.specs.Told.{Told, jobs-of, latest-of, row-in}
 use Rattle.planner.specs.Unless.{Unless, refused, passed, UnlessAt, first, clear, One}
-use Rattle.planner.specs.Answer.{Says}
-use Rattle.planner.specs.Table.{places, Clear, Table}
-use Rattle.planner.proofs.Laws.{Each, among-each, table-one, table-past, table-free, table-nested, table-rest, table-last}
-use Rattle.planner.proofs.Says.{says-one, says-same, says-accepted, says-refused, says-not-both}
+use Rattle.refusal.specs.Says.{Says}
+use Rattle.refusal.specs.Table.{places, Clear, Table}
+use Rattle.refusal.proofs.Table.{Each, among-each, table-one, table-past, table-free, table-nested, table-rest, table-last}
+use Rattle.refusal.proofs.Says.{says-one, says-same, says-accepted, says-refused, says-not-both}
 use Rattle.planner.specs.Judged.{first-of, second-of, pairs-of, list-of, Misshapen, job-at, order-at, rows-checks, list-checks, Judgement, TurnedDown, Fitted, Judged-as, AsRequests}
 use Rattle.planner.specs.Outcome.{plan-check}
 use Rattle.planner.specs.Inner.List.{Held}

@@ -18,9 +18,9 @@ use Rattle.schedule.proofs.Tests.{lt-by}
 use Rattle.schedule.proofs.Rows.{greatest-bound, greatest-least}
 use Rattle.schedule.proofs.Seats.{slots-stay, slot-seat}
 use Rattle.planner.specs.declared.layout.Stage.{Stage}
-use Rattle.planner.specs.Sets.{has}
+use Rattle.sets.specs.Sets.{has}
 use Rattle.planner.specs.Inner.Layout.{Layable, Laid, Late, Lays}
-use Rattle.planner.proofs.Bits.{high-has}
+use Rattle.sets.proofs.Bits.{high-has}
 use Rattle.planner.proofs.Readiness.{empty, none-in}
 
 module _ (J : Jobs) (row : ℕ → ℕ) where

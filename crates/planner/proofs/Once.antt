@@ -6,16 +6,16 @@ use Prim.Native.Nat.{ℕ, _≤_}
 use native.Mathlib.Nat.{le-antisymm}
 use Rattle.schedule.specs.Listed.{Listed}
 use Rattle.schedule.proofs.Tests.{le-by}
-use Rattle.planner.specs.declared.book.Book.{Book}
+use Rattle.book.specs.Told.{Book}
 use Rattle.planner.specs.declared.book.Request.{Request}
 use Rattle.planner.specs.declared.book.Request.the-variants.{Job, Before, Earlier}
 use Rattle.planner.specs.declared.book.Applied.{Applied}
-use Rattle.planner.specs.Told.{Told, Made}
+use Rattle.book.specs.Told.{Told, Made}
 use Rattle.planner.specs.Unless.{Unless, refused, passed, UnlessAt, first, clear, One}
 use Rattle.planner.specs.Outcome.{sound-checks, request-checks, accepts-with, grow, Turned, Grown, Outcome, Outcomes, Applies, kept, Run, opened, asked}
-use Rattle.planner.proofs.Same.{told-one}
-use Rattle.planner.proofs.Laws.{Each, among-each, table-one, table-all}
-use Rattle.planner.proofs.Says.{says-one, says-accepted, says-refused}
+use Rattle.book.proofs.Same.{told-one}
+use Rattle.refusal.proofs.Table.{Each, among-each, table-one, table-all}
+use Rattle.refusal.proofs.Says.{says-one, says-accepted, says-refused}
 
 -- a check keeps one result one
 pub unless-one : {A : Type 0} (fault : Type 0) (refusal : A) (next : A → Type 0) → One next → One (Unless fault refusal next)

@@ -14,9 +14,9 @@ use Rattle.schedule.specs.Listed.{ordered, Chain, link, join}
 use Rattle.schedule.proofs.Tests.{lt-by, or-left, or-right, or-split, eq→eqb}
 use Rattle.schedule.proofs.Search.{split-last}
 use Rattle.schedule.proofs.Chains.{chain-grows, chain-held, ordered-append}
-use Rattle.planner.specs.Sets.{has}
+use Rattle.sets.specs.Sets.{has}
 use Rattle.planner.specs.Judged.{first-of, second-of, pairs-of, order-at}
-use Rattle.planner.specs.Table.{Clear}
+use Rattle.refusal.specs.Table.{Clear}
 use Rattle.planner.specs.Inner.List.{Held, Spells, TakesIn}
 use Rattle.planner.proofs.Step.{zeros, none-has}
 

@@ -14,11 +14,11 @@ use Rattle.schedule.specs.Make.{choose, ready, taken}
 use Rattle.schedule.proofs.Tests.{and-pair, and-fst, and-snd, same-test, eq→eqb, lt-by, Says, itself, says-lt, says-then}
 use Rattle.schedule.proofs.Choice.{all-each, each-all}
 use Rattle.schedule.proofs.Loop.{choose-ext}
-use Rattle.planner.specs.Sets.{has}
-use Rattle.planner.specs.Told.{jobs-in, row-in}
+use Rattle.sets.specs.Sets.{has}
+use Rattle.book.specs.Told.{jobs-in, row-in}
 use Rattle.planner.specs.Inner.Choice.{ready-by}
-use Rattle.planner.proofs.Bits.{and-has, high-has}
-use Rattle.planner.proofs.Same.{digits-same}
+use Rattle.sets.proofs.Bits.{and-has, high-has}
+use Rattle.book.proofs.Same.{digits-same}
 
 -- nothing is in the empty set
 pub empty : (j : ℕ) → T (has 0 j) → ⊥

@@ -16,7 +16,7 @@ use Rattle.schedule.specs.Grow.{Extends}
 use Rattle.schedule.proofs.Tests.{le-by, lt-by}
 use Rattle.schedule.proofs.Chains.{jobs, jobs-reads}
 use Rattle.schedule.proofs.Grow.{plan-back}
-use Rattle.planner.specs.declared.book.Book.{Book}
+use Rattle.book.specs.Told.{Book}
 use Rattle.planner.specs.declared.book.Request.{Request}
 use Rattle.planner.specs.Outcome.{Planned, grow, Run, opened, asked}
 use Rattle.planner.specs.Judged.{first-of, second-of, pairs-of, list-of}

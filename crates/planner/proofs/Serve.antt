@@ -23,8 +23,8 @@ use Rattle.schedule.proofs.Choice.{ready-read, ready-write}
 use Rattle.schedule.proofs.Loop.{Agree, choose-ext}
 use Rattle.schedule.proofs.Seats.{taken-chosen, taken-free, slot-seat, idle-after}
 use Rattle.planner.specs.declared.layout.Stage.{Stage}
-use Rattle.planner.specs.Sets.{has}
-use Rattle.planner.specs.Told.{jobs-in, row-in}
+use Rattle.sets.specs.Sets.{has}
+use Rattle.book.specs.Told.{jobs-in, row-in}
 use Rattle.planner.specs.Inner.Choice.{begins, ready-by, others, Wakes}
 use Rattle.planner.specs.Inner.Layout.{on-second, Kept, Serving, Serves}
 use Rattle.planner.proofs.Readiness.{none-in, choice-taken}

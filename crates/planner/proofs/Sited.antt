@@ -17,7 +17,7 @@ use Rattle.schedule.specs.Make.{slots, seat, byte, bytes}
 use Rattle.schedule.proofs.Tests.{test, cond-case, eq→eqb, le-or-lt, le-by}
 use Rattle.schedule.proofs.Loop.{bytes-length, bytes-at}
 use Rattle.schedule.proofs.Seats.{seat-slot, seat-once, placed-seat}
-use Rattle.planner.specs.Sets.{has}
+use Rattle.sets.specs.Sets.{has}
 use Rattle.planner.specs.Inner.Layout.{on-second}
 use Rattle.planner.specs.Inner.Planned.{core-in, seated}
 

@@ -23,15 +23,15 @@ use Rattle.schedule.proofs.Certify.{entry}
 use Rattle.schedule.proofs.Certify as certify
 use Rattle.schedule.proofs.Table.{table}
 use Rattle.schedule.proofs.Table as theory
-use Rattle.planner.specs.declared.book.Book.{Book}
-use Rattle.planner.specs.declared.refusal.Answer.{Answer}
-use Rattle.planner.specs.declared.refusal.Answer.the-variants.{Accepted, Refused}
-use Rattle.planner.specs.Told.{jobs-of, latest-of, row-in, Told}
+use Rattle.book.specs.Told.{Book}
+use Rattle.refusal.specs.declared.Answer.{Answer}
+use Rattle.refusal.specs.declared.Answer.the-variants.{Accepted, Refused}
+use Rattle.book.specs.Told.{jobs-of, latest-of, row-in, Told}
 use Rattle.planner.specs.Unless.{refused, passed}
-use Rattle.planner.specs.Table.{places, Table}
-use Rattle.planner.specs.Table as checks
-use Rattle.planner.proofs.Laws.{table-free, table-caught}
-use Rattle.planner.proofs.Says.{says-accepted, says-refused}
+use Rattle.refusal.specs.Table.{places, Table}
+use Rattle.refusal.specs.Table as checks
+use Rattle.refusal.proofs.Table.{table-free, table-caught}
+use Rattle.refusal.proofs.Says.{says-accepted, says-refused}
 use Rattle.planner.specs.Outcome.{plan-check}
 use Rattle.planner.specs.Judged.{first-of, second-of, pairs-of, list-of, Misshapen, order-at, Judgement, TurnedDown, Fitted, Judges}
 use Rattle.planner.specs.Planned.{finish-of, bytes-of, Plans}

@@ -20,17 +20,17 @@ use Rattle.schedule.proofs.Loop.{put-set}
 use Rattle.schedule.proofs.Chains.{reads-closed, reads-loopless, getD-put}
 use Rattle.schedule.proofs.Onward.{Onward, holds-planned, onward-job, onward-order, onward-deadline}
 use Rattle.schedule.proofs.Book.{holds-nothing, holds-followed, holds-kept}
-use Rattle.planner.specs.declared.book.Book.{Book}
-use Rattle.planner.specs.declared.refusal.Answer.the-variants.{Accepted}
+use Rattle.book.specs.Told.{Book}
+use Rattle.refusal.specs.declared.Answer.the-variants.{Accepted}
 use Rattle.planner.specs.declared.book.Applied.{Applied}
-use Rattle.planner.specs.Sets.{has}
-use Rattle.planner.specs.Told.{jobs-of, latest-of, row-in, Shaped, Limited, Told, nothing-listed}
-use Rattle.planner.specs.Table.{refused, passed}
+use Rattle.sets.specs.Sets.{has}
+use Rattle.book.specs.Told.{jobs-of, latest-of, row-in, Shaped, Limited, Told, nothing-listed}
+use Rattle.refusal.specs.Table.{refused, passed}
 use Rattle.planner.specs.Outcome.{refusal, acceptance, Judged}
 use Rattle.planner.specs.Inner.Chains.{Links}
 use Rattle.planner.specs.Inner.Tighten.{Tightenable, Tightens}
 use Rattle.schedule.proofs.Same.{plan-one}
-use Rattle.planner.proofs.Says.{says-accepted, turn}
+use Rattle.refusal.proofs.Says.{says-accepted, turn}
 
 pub zeros : (n i : ℕ) → _≡_ {A = ℕ} (getD (replicate n 0) i 0) 0
 zeros zero i = refl

@@ -11,10 +11,10 @@ use lib.Dec.{T, eqb, eqb→eq, eqb-refl, leb, ltb, ltb→lt, lt→ltb}
 use lib.ListN.{getD}
 use Rattle.schedule.proofs.Tests.{and-fst, and-snd, and-pair, or-left, or-right, or-split, same-test, le-or-lt}
 use Rattle.planner.specs.declared.tighten.Due.{Due}
-use Rattle.planner.specs.Sets.{has}
+use Rattle.sets.specs.Sets.{has}
 use Rattle.planner.specs.Inner.Lower.{DueBy, DueAmong}
-use Rattle.planner.specs.Told.{row-in}
-use Rattle.planner.proofs.Bits.{has-some, walk-sub, walk-split}
+use Rattle.book.specs.Told.{row-in}
+use Rattle.sets.proofs.Bits.{has-some, walk-sub, walk-split}
 
 -- what is known while the set is walked: those of `rest` are still to come
 pub record Gathered (limit among : ℕ) (row : List ℕ) (d jobs rest : ℕ) : Type 0 where

@@ -19,12 +19,12 @@ use Rattle.schedule.specs.Times.{Raised, Earliest}
 use Rattle.schedule.proofs.Search.{Empty, Least, least}
 use Rattle.schedule.proofs.Counting.{count-lt, count-pos, count-find, count-bound}
 use Rattle.schedule.proofs.Rows.{Put, put-cases, put-all, put-same}
-use Rattle.planner.specs.Sets.{has}
-use Rattle.planner.specs.Told.{jobs-in, row-in}
+use Rattle.sets.specs.Sets.{has}
+use Rattle.book.specs.Told.{jobs-in, row-in}
 use Rattle.planner.specs.Inner.Early.{Free, After, Startable, Begins}
 use Rattle.schedule.proofs.Tests.{test, le-by}
 use Rattle.schedule.proofs.Early.{raise, raise-earliest}
-use Rattle.planner.proofs.Bits.{walk-sub, walk-split, walk-one, has-some, count-cut}
+use Rattle.sets.proofs.Bits.{walk-sub, walk-split, walk-one, has-some, count-cut}
 
 -- ---- after every job of a set: what is known while the set is walked
 pub record Reached (start set : ℕ) (early : List ℕ) (time rest : ℕ) : Type 0 where

@@ -15,10 +15,10 @@ use Rattle.schedule.specs.Jobs.{Jobs}
 use Rattle.schedule.specs.Times.{N, presses}
 use Rattle.schedule.proofs.Tests.{le-or-lt}
 use Rattle.schedule.proofs.Press.{N-mono, N-bound}
-use Rattle.planner.specs.Sets.{has}
-use Rattle.planner.specs.Inner.Sets.{pressed}
+use Rattle.sets.specs.Sets.{has}
+use Rattle.sets.specs.Walk.{pressed}
 use Rattle.planner.specs.Inner.Lower.{At, Pressure}
-use Rattle.planner.proofs.Bits.{count-cut}
+use Rattle.sets.proofs.Bits.{count-cut}
 
 turned : (x y n : Bool) → ((x && y) && n) ≡ ((n && x) && y)
 turned true true true = refl

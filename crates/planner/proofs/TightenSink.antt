@@ -21,12 +21,12 @@ use Rattle.schedule.proofs.Loop.{put-set}
 use Rattle.schedule.proofs.Few.{Few, own, other, consistent-few}
 use Rattle.planner.specs.declared.tighten.Due.{Due}
 use Rattle.planner.specs.declared.tighten.Moved.the-variants.{Jobs as Those}
-use Rattle.planner.specs.Sets.{has}
-use Rattle.planner.specs.Told.{jobs-in, row-in}
+use Rattle.sets.specs.Sets.{has}
+use Rattle.book.specs.Told.{jobs-in, row-in}
 use Rattle.planner.specs.Inner.Tables.{Follows}
 use Rattle.planner.specs.Inner.Tighten.{Tightens}
 use Rattle.planner.specs.Inner.Lower.{DueBy, Clear, Eased, Ruled, Sunk, Fell, Moves, AtD, Swept, Settles}
-use Rattle.planner.proofs.Bits.{and-has, has-some, walk-split}
+use Rattle.sets.proofs.Bits.{and-has, has-some, walk-split}
 use Rattle.schedule.proofs.Same.{latest-any}
 use Rattle.planner.proofs.TightenDue.{DueBelow}
 use Rattle.planner.proofs.TightenLower.{bound-join, bound-same, bound-none}

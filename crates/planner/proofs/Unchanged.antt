@@ -9,16 +9,16 @@ use Rattle.schedule.specs.declared.JobIndex.{JobIndex}
 use Rattle.schedule.specs.Listed.{Listed, Chain, join}
 use Rattle.schedule.proofs.Chains.{chain-held}
 use Rattle.schedule.proofs.Onward.{holds-planned}
-use Rattle.planner.specs.declared.book.Book.{Book}
+use Rattle.book.specs.Told.{Book}
 use Rattle.planner.specs.declared.book.Request.the-variants.{Before, Earlier}
 use Rattle.planner.specs.declared.book.Applied.{Applied}
-use Rattle.planner.specs.declared.refusal.Answer.the-variants.{Accepted}
-use Rattle.planner.specs.Told.{jobs-of, latest-of, Told}
+use Rattle.refusal.specs.declared.Answer.the-variants.{Accepted}
+use Rattle.book.specs.Told.{jobs-of, latest-of, Told}
 use Rattle.planner.specs.Outcome.{Judged, Applies}
-use Rattle.planner.proofs.Same.{told-one}
+use Rattle.book.proofs.Same.{told-one}
 use Rattle.planner.proofs.Step.{size-is, followed-told, kept-told}
-use Rattle.planner.proofs.Laws.{table-free, table-rest}
-use Rattle.planner.proofs.Says.{says-accepted}
+use Rattle.refusal.proofs.Table.{table-free, table-rest}
+use Rattle.refusal.proofs.Says.{says-accepted}
 
 -- the book holds the enlarged list already
 settled : (L : Listed) (k : Book) (r : Applied) → Told k L → Judged L 0 k r → (r .answer ≡ Accepted 0) × (r .book ≡ k)

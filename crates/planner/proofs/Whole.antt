@@ -14,16 +14,16 @@ use Rattle.schedule.proofs.Tests.{le-by}
 use Rattle.schedule.proofs.Early.{exists-earliest}
 use Rattle.schedule.proofs.Chains.{reads-closed, reads-loopless}
 use Rattle.schedule.proofs.Renumber.{latest-along}
-use Rattle.planner.specs.declared.refusal.Answer.{Answer}
-use Rattle.planner.specs.Told.{jobs-in, row-in}
-use Rattle.planner.specs.Table.{Checks, Clear, Refuses, Table, refused, passed}
+use Rattle.refusal.specs.declared.Answer.{Answer}
+use Rattle.book.specs.Told.{jobs-in, row-in}
+use Rattle.refusal.specs.Table.{Checks, Clear, Refuses, Table, refused, passed}
 use Rattle.planner.specs.Outcome.{times-checks, plan-check}
 use Rattle.planner.specs.Judged.{list-of, job-at, order-at, TurnedDown, Fitted}
 use Rattle.planner.specs.Inner.List.{First, Numbers, Held, Spells, Settleable, HandsOut, none, fits}
 use Rattle.schedule.proofs.Same.{reads-one, plan-one}
 use Rattle.schedule.proofs.Onward.{holds-planned}
-use Rattle.planner.proofs.Laws.{refuses-not-clear}
-use Rattle.planner.proofs.Says.{says-accepted, says-refused}
+use Rattle.refusal.proofs.Table.{refuses-not-clear}
+use Rattle.refusal.proofs.Says.{says-accepted, says-refused}
 use Rattle.planner.proofs.Pairs.{pairs-held, pairs-loopless, spells-held}
 
 -- ---- a check of every place that found none

@@ -8,12 +8,12 @@ use lib.ListN.{length, getD}
 use Rattle.schedule.specs.Jobs.{Jobs}
 use Rattle.schedule.specs.Listed.{Listed}
 use Rattle.schedule.specs.Book.{Holds}
-use Rattle.planner.specs.declared.book.Book.{Book}
-use Rattle.planner.specs.declared.refusal.Answer.{Answer}
-use Rattle.planner.specs.declared.refusal.Answer.the-variants.{Accepted, Refused}
-use Rattle.planner.specs.Told.{row-in, latest-of, Told}
-use Rattle.planner.specs.Answer.{Says}
-use Rattle.planner.specs.Table.{Checks, check, _then_, places, Table}
+use Rattle.book.specs.Told.{Book}
+use Rattle.refusal.specs.declared.Answer.{Answer}
+use Rattle.refusal.specs.declared.Answer.the-variants.{Accepted, Refused}
+use Rattle.book.specs.Told.{row-in, latest-of, Told}
+use Rattle.refusal.specs.Says.{Says}
+use Rattle.refusal.specs.Table.{Checks, check, _then_, places, Table}
 use Rattle.planner.specs.Outcome.{times-checks, held-checks, loop-checks, plan-check, Run}
 
 -- the jobs of a pair (01, The whole list at once: "pairs "first, second" laid flat")

@@ -8,15 +8,15 @@ use lib.ListN.{length, getD}
 use Rattle.schedule.specs.Jobs.{Jobs}
 use Rattle.schedule.specs.Plan.{HasPlan}
 use Rattle.schedule.specs.Listed.{Listed, Chain, Reads, written, with-job, with-order, with-deadline}
-use Rattle.planner.specs.declared.book.Book.{Book}
+use Rattle.book.specs.Told.{Book}
 use Rattle.planner.specs.declared.book.Request.{Request}
 use Rattle.planner.specs.declared.book.Request.the-variants.{Job, Before, Earlier}
-use Rattle.planner.specs.declared.refusal.Answer.{Answer}
-use Rattle.planner.specs.declared.refusal.Answer.the-variants.{Accepted, Refused}
+use Rattle.refusal.specs.declared.Answer.{Answer}
+use Rattle.refusal.specs.declared.Answer.the-variants.{Accepted, Refused}
 use Rattle.planner.specs.declared.book.Applied.{Applied}
-use Rattle.planner.specs.Table.{Checks, check, _then_, Clear, Table}
-use Rattle.planner.specs.Answer.{Says}
-use Rattle.planner.specs.Told.{Told, Made, nothing-listed}
+use Rattle.refusal.specs.Table.{Checks, check, _then_, Clear, Table}
+use Rattle.refusal.specs.Says.{Says}
+use Rattle.book.specs.Told.{Told, Made, nothing-listed}
 
 -- some valid plan of the list meets its deadlines (01, Numbers of refusal: 4)
 abbrev pub Planned : Listed → Type 0

@@ -8,15 +8,15 @@ use lib.Dec.{eqb, leb}
 use lib.ListN.{length, take, drop}
 use Rattle.schedule.specs.Plan.{finish}
 use Rattle.schedule.specs.Make.{slots, seat, bytes}
-use Rattle.planner.specs.declared.book.Book.{Book}
+use Rattle.book.specs.Told.{Book}
 use Rattle.planner.specs.declared.refusal.Place.{Place}
 use Rattle.planner.specs.declared.refusal.Placed.{Placed}
 use Rattle.planner.specs.declared.refusal.Placed.the-variants.{At, Refused}
-use Rattle.planner.specs.declared.refusal.Answer.{Answer}
-use Rattle.planner.specs.declared.refusal.Answer.the-variants.{Accepted}
-use Rattle.planner.specs.declared.refusal.Answer.the-variants as answer
+use Rattle.refusal.specs.declared.Answer.{Answer}
+use Rattle.refusal.specs.declared.Answer.the-variants.{Accepted}
+use Rattle.refusal.specs.declared.Answer.the-variants as answer
 use Rattle.planner.specs.Unless.{Unless}
-use Rattle.planner.specs.Told.{jobs-of, latest-of}
+use Rattle.book.specs.Told.{jobs-of, latest-of}
 
 -- each job's slot; 4096 slots are enough, since no latest time is greater (01, The plan made: "At each slot from 0")
 abbrev pub plan-of : Book → ℕ → ℕ

@@ -4,7 +4,7 @@ use crate::refusal::Answer;
 use crate::sets;
 use crate::tighten;
 use schedule::JobIndex;
-ghost use Rattle.planner.specs.Told.{Told, Made, held, nothing-listed};
+ghost use Rattle.book.specs.Told.{Told, Made, held, nothing-listed};
 ghost use Rattle.planner.specs.Outcome.{Outcomes, Applies, answered};
 
 // Starts, latest times and which job precedes which: row b of `before` is the set of jobs that precede job b.

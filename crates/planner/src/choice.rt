@@ -7,8 +7,8 @@ ghost use mathlib.Core.Path.{_≡_};
 ghost use Prim.Native.Nat.{ℕ, _≤_, _<_};
 ghost use lib.Dec.{T};
 ghost use lib.ListN.{getD};
-ghost use Rattle.planner.specs.Sets.{has};
-ghost use Rattle.planner.specs.Told.{row-in};
+ghost use Rattle.sets.specs.Sets.{has};
+ghost use Rattle.book.specs.Told.{row-in};
 ghost use Rattle.planner.specs.Inner.Choice.{begins, ready-by, Chooses, Wakes};
 
 // The jobs of core 0 and of core 1 in a slot.

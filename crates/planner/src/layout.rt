@@ -2,7 +2,7 @@
 use crate::choice;
 use crate::sets;
 use schedule::SlotTime;
-ghost use Rattle.planner.specs.Told.{jobs-in, row-in};
+ghost use Rattle.book.specs.Told.{jobs-in, row-in};
 ghost use Rattle.planner.specs.Inner.Layout.{Layable, Serving, Serves, Lays};
 
 // Each job's slot, the jobs on core 1, and the finishing time.

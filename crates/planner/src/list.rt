@@ -9,7 +9,7 @@ ghost use mathlib.Core.Path.{_≡_};
 ghost use Prim.Native.Nat.{ℕ, _/_, _≤_, _<_};
 ghost use lib.Dec.{T, eqb};
 ghost use lib.ListN.{length, getD};
-ghost use Rattle.planner.specs.Sets.{has};
+ghost use Rattle.sets.specs.Sets.{has};
 ghost use Rattle.planner.specs.Judged.{Judges, job-at, pair-at};
 ghost use Rattle.planner.specs.Inner.List.{First, Numbers, Held, Spells, Loops, TakesIn, Hands, Settleable, HandsOut};
 

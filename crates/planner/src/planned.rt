@@ -13,7 +13,7 @@ ghost use mathlib.Core.List.{_++_};
 ghost use mathlib.Core.Path.{_≡_};
 ghost use Prim.Native.Nat.{_+_, _*_, _≤_, _<_};
 ghost use lib.ListN.{length, drop, replicate, set};
-ghost use Rattle.planner.specs.Told.{Made};
+ghost use Rattle.book.specs.Told.{Made};
 ghost use Rattle.planner.specs.Planned.{Plans, Places, span-of};
 ghost use Rattle.planner.specs.Inner.Planned.{core-in, seated, Writable};
 

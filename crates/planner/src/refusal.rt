@@ -2,7 +2,7 @@
 use schedule::CoreIndex;
 use schedule::SlotTime;
 ghost use mathlib.Core.Path.{_≡_};
-ghost use Rattle.planner.specs.Answer.{class-of};
+ghost use Rattle.refusal.specs.Says.{class-of};
 
 pub enum Answer {
     // what is answered

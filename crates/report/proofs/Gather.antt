@@ -6,8 +6,8 @@ use Prim.Native.Nat.{ℕ, _+_, _*_, _/_, _≤_}
 use native.Mathlib.Omega.{arith}
 use lib.ListN.{length, take, drop, length-append, length-drop}
 use lib.Seq.{take-at}
-use Rattle.planner.specs.declared.book.Book.{Book}
-use Rattle.planner.specs.declared.refusal.Answer.{Answer}
+use Rattle.book.specs.Told.{Book}
+use Rattle.refusal.specs.declared.Answer.{Answer}
 use Rattle.planner.specs.Unless.{refused, passed}
 use Rattle.planner.proofs.Judged.{unless-free}
 use Rattle.jobfile.specs.declared.record.Asked.{Asked}

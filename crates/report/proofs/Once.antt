@@ -4,10 +4,10 @@ use mathlib.Core.List.{List, _++_}
 use mathlib.Core.Path.{_≡_, sym, ap, ap₂, subst, _∙_}
 use Prim.Native.Nat.{ℕ}
 use lib.ListN.{length, drop}
-use Rattle.planner.specs.declared.book.Book.{Book}
-use Rattle.planner.specs.Told.{nothing-listed}
+use Rattle.book.specs.Told.{Book}
+use Rattle.book.specs.Told.{nothing-listed}
 use Rattle.planner.specs.Unless.{One}
-use Rattle.planner.proofs.Same.{told-one}
+use Rattle.book.proofs.Same.{told-one}
 use Rattle.planner.proofs.Once.{unless-one}
 use Rattle.jobfile.specs.declared.reader.Step.{Step}
 use Rattle.jobfile.specs.File.{Pass}

@@ -7,12 +7,12 @@ use native.Mathlib.Omega.{arith}
 use lib.ListN.{length, take, drop, length-append}
 use lib.Seq.{take-at}
 use Rattle.schedule.proofs.Loop.{bytes-length}
-use Rattle.planner.specs.declared.book.Book.{Book}
-use Rattle.planner.specs.declared.refusal.Answer.{Answer}
-use Rattle.planner.specs.declared.refusal.Answer.the-variants.{Accepted}
+use Rattle.book.specs.Told.{Book}
+use Rattle.refusal.specs.declared.Answer.{Answer}
+use Rattle.refusal.specs.declared.Answer.the-variants.{Accepted}
 use Rattle.planner.specs.declared.refusal.Placed.{Placed}
 use Rattle.planner.specs.declared.refusal.Placed.the-variants.{At}
-use Rattle.planner.specs.Told.{jobs-of, latest-of, Made}
+use Rattle.book.specs.Told.{jobs-of, latest-of, Made}
 use Rattle.planner.specs.Unless.{refused, passed}
 use Rattle.planner.specs.Planned.{finish-of, bytes-of, Plans, place-of, Places}
 use Rattle.planner.proofs.Handed.{finish-fits}

@@ -12,8 +12,8 @@ use Rattle.schedule.proofs.Tests.{le-or-lt}
 use Rattle.report.specs.Text.{decimal, each}
 use Rattle.report.specs.Line.{refused-line, stopped-line, jobs-line, core, slot-line, job-line}
 use Rattle.report.specs.Listing.{refused-lines, slot-lines, job-text, job-lines}
-use Rattle.planner.specs.declared.book.Book.{Book}
-use Rattle.planner.specs.Told.{Made}
+use Rattle.book.specs.Told.{Book}
+use Rattle.book.specs.Told.{Made}
 use Rattle.planner.proofs.Handed.{plan-is-valid}
 use Rattle.jobfile.proofs.Part.{start-low, latest-high}
 use Rattle.report.proofs.Decimal.{front-small, front-large, decimal-last}

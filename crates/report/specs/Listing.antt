@@ -4,8 +4,8 @@ use mathlib.Core.List.{List, [], _++_}
 use mathlib.Core.Path.{_≡_}
 use Prim.Native.Nat.{ℕ, _+_, _*_, _/_, _<_, _≤_}
 use lib.ListN.{length, getD, drop}
-use Rattle.planner.specs.declared.book.Book.{Book}
-use Rattle.planner.specs.Told.{Told, latest-of, nothing-listed}
+use Rattle.book.specs.Told.{Book}
+use Rattle.book.specs.Told.{Told, latest-of, nothing-listed}
 use Rattle.planner.specs.Planned.{finish-of, bytes-of, place-of}
 use Rattle.planner.specs.Unless.{Unless}
 use Rattle.jobfile.specs.declared.reader.Event.{Event}

@@ -7,7 +7,7 @@ use planner::Placed;
 use schedule::JobIndex;
 ghost use Prim.Native.Nat.{_+_, _≤_, _<_};
 ghost use lib.ListN.{length};
-ghost use Rattle.planner.specs.Told.{Made};
+ghost use Rattle.book.specs.Told.{Made};
 ghost use Rattle.report.specs.Listing.{book-lines, job-lines, job-text};
 ghost use Rattle.report.specs.Inner.Put.{Room, Puts};
 

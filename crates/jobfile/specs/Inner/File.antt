@@ -4,8 +4,8 @@ use mathlib.Core.List.{List, _++_}
 use mathlib.Core.Path.{_≡_}
 use Prim.Native.Nat.{ℕ, _*_, _/_, _≤_}
 use lib.ListN.{length, drop}
-use Rattle.planner.specs.declared.book.Book.{Book}
-use Rattle.planner.specs.Told.{Made}
+use Rattle.book.specs.Told.{Book}
+use Rattle.book.specs.Told.{Made}
 use Rattle.jobfile.specs.declared.reader.Step.{Step}
 use Rattle.jobfile.specs.File.{Pass}
 

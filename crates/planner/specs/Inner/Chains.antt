@@ -8,7 +8,7 @@ use Prim.Native.Nat.{ℕ, zero, suc}
 use lib.Bits.{bitOr}
 use lib.Dec.{T, eqb}
 use lib.ListN.{getD}
-use Rattle.planner.specs.Sets.{has}
+use Rattle.sets.specs.Sets.{has}
 
 -- row b, and the rows of all that b precedes, take in a and all that precedes a
 abbrev pub Links : ℕ → ℕ → List ℕ → List ℕ → Type 0

@@ -8,7 +8,7 @@ use lib.Bits.{bitAnd}
 use lib.Dec.{eqb, leb}
 use lib.ListN.{getD}
 use Rattle.schedule.specs.Make.{choose}
-use Rattle.planner.specs.Sets.{has}
+use Rattle.sets.specs.Sets.{has}
 
 -- a job's start is at most t and no predecessor of it is undone
 abbrev pub begins : ℕ → ℕ → ℕ → ℕ → Bool

@@ -8,8 +8,8 @@ use lib.Dec.{T}
 use lib.ListN.{getD}
 use Rattle.schedule.specs.Jobs.{Closed, Loopless}
 use Rattle.schedule.specs.Times.{Earliest}
-use Rattle.planner.specs.Sets.{has}
-use Rattle.planner.specs.Told.{jobs-in, row-in}
+use Rattle.sets.specs.Sets.{has}
+use Rattle.book.specs.Told.{jobs-in, row-in}
 
 -- job i is to do, and none that precedes it is
 pub record Free (i before todo : ℕ) : Type 0 where

@@ -11,7 +11,7 @@ use Rattle.schedule.specs.Plan.{finish}
 use Rattle.schedule.specs.Make.{slots, seat}
 use Rattle.planner.specs.declared.layout.Layout.{Layout}
 use Rattle.planner.specs.declared.layout.Stage.{Stage}
-use Rattle.planner.specs.Sets.{has}
+use Rattle.sets.specs.Sets.{has}
 
 -- the plan has every job placed by slot 4096
 pub record Layable (J : Jobs) (row : ℕ → ℕ) : Type 0 where

@@ -10,12 +10,12 @@ use Rattle.schedule.specs.Jobs.{Closed, Loopless}
 use Rattle.schedule.specs.Plan.{HasPlan}
 use Rattle.schedule.specs.Times.{Earliest, Latest}
 use Rattle.schedule.specs.Listed.{Chain}
-use Rattle.planner.specs.declared.refusal.Answer.{Answer}
-use Rattle.planner.specs.declared.refusal.Answer.the-variants.{Accepted, Refused}
-use Rattle.planner.specs.Sets.{has}
-use Rattle.planner.specs.Told.{jobs-in, row-in}
+use Rattle.refusal.specs.declared.Answer.{Answer}
+use Rattle.refusal.specs.declared.Answer.the-variants.{Accepted, Refused}
+use Rattle.sets.specs.Sets.{has}
+use Rattle.book.specs.Told.{jobs-in, row-in}
 use Rattle.planner.specs.Judged.{pairs-of, pair-at, order-at}
-use Rattle.planner.specs.Table.{Checks, Clear, Refuses}
+use Rattle.refusal.specs.Table.{Checks, Clear, Refuses}
 use Rattle.planner.specs.Outcome.{times-checks}
 use Rattle.planner.specs.Inner.Chains.{Links}
 

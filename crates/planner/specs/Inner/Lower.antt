@@ -15,8 +15,8 @@ use Rattle.schedule.proofs.Exist.{Bound}
 use Rattle.planner.specs.declared.tighten.Moved.{Moved}
 use Rattle.planner.specs.declared.tighten.Moved.the-variants.{Jobs as Those, Shut}
 use Rattle.planner.specs.declared.tighten.Due.{Due}
-use Rattle.planner.specs.Sets.{has}
-use Rattle.planner.specs.Told.{row-in}
+use Rattle.sets.specs.Sets.{has}
+use Rattle.book.specs.Told.{row-in}
 use Rattle.planner.specs.Inner.Tables.{Steps, Levels, Known}
 
 -- a row with the tables of its jobs: each in its limits, and some jobs have these tables

@@ -9,8 +9,8 @@ use lib.ListN.{length, getD}
 use Rattle.schedule.specs.Jobs.{Closed, Loopless}
 use Rattle.schedule.specs.Plan.{HasPlan}
 use Rattle.schedule.specs.Times.{Earliest, Latest}
-use Rattle.planner.specs.Sets.{has}
-use Rattle.planner.specs.Told.{jobs-in, row-in}
+use Rattle.sets.specs.Sets.{has}
+use Rattle.book.specs.Told.{jobs-in, row-in}
 
 -- rows that may be tightened: at most 64 jobs, in their limits, closed under chains, without a loop
 pub record Tightenable (size : ℕ) (start before row : List ℕ) : Type 0 where

@@ -7,8 +7,8 @@ ghost use lib.Dec.{T};
 ghost use lib.ListN.{length, getD};
 ghost use Rattle.schedule.specs.Jobs.{Jobs};
 ghost use Rattle.schedule.specs.Times.{Raised};
-ghost use Rattle.planner.specs.Sets.{has};
-ghost use Rattle.planner.specs.Told.{row-in};
+ghost use Rattle.sets.specs.Sets.{has};
+ghost use Rattle.book.specs.Told.{row-in};
 ghost use Rattle.planner.specs.Inner.Tables.{Follows};
 ghost use Rattle.planner.specs.Inner.Lower.{Eased, Fits};
 

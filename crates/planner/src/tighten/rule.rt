@@ -8,7 +8,7 @@ ghost use lib.ListN.{getD};
 ghost use Rattle.schedule.specs.Count.{count};
 ghost use Rattle.schedule.specs.Jobs.{Jobs};
 ghost use Rattle.schedule.specs.Times.{Earliest};
-ghost use Rattle.planner.specs.Inner.Sets.{pressed};
+ghost use Rattle.sets.specs.Walk.{pressed};
 ghost use Rattle.planner.specs.Inner.Tables.{Steps};
 ghost use Rattle.planner.specs.Inner.Lower.{At, Pressure, Ruled};
 

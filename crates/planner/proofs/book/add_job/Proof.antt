@@ -5,11 +5,11 @@ use mathlib.Core.List.{List}
 use mathlib.Core.Logic.{inl, inr, ⊎-elim}
 use Prim.Native.Nat.{ℕ}
 use native.Mathlib.Omega.{arith}
-use Rattle.planner.specs.Told.{held}
+use Rattle.book.specs.Told.{held}
 use Rattle.planner.specs.Outcome.{refusal}
 use Rattle.planner.proofs.Step.{size-is, job-grows, grows-ready, fits-judged, none-judged, set-back}
-use Rattle.planner.proofs.Laws.{then-table}
-use Rattle.planner.proofs.Says.{turn}
+use Rattle.refusal.proofs.Table.{then-table}
+use Rattle.refusal.proofs.Says.{turn}
 use Rattle.planner.proofs.Join.{unjoined-ready, unjoined-tight}
 use borrow.Author.Needs.{needs}
 use Rattle.planner.proofs.book.add_job.Statement.{statement}

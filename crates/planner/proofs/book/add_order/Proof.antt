@@ -6,12 +6,12 @@ use native.Mathlib.Omega.{arith}
 use Rattle.schedule.specs.Listed.{Listed, with-order}
 use Rattle.planner.specs.declared.book.Applied.{Applied}
 use Rattle.planner.specs.declared.book.Request.the-variants.{Before}
-use Rattle.planner.specs.Told.{held, Told}
+use Rattle.book.specs.Told.{held, Told}
 use Rattle.planner.specs.Outcome.{Judged, Outcome}
 use Rattle.planner.specs.Inner.Chains.{joined-rows}
 use Rattle.planner.proofs.Step.{Grows, false-T, true-T, size-is, order-held, order-back, order-free, followed-told, grows-ready, told-judged, fits-judged, none-judged}
-use Rattle.planner.proofs.Laws.{then-table}
-use Rattle.planner.proofs.Says.{turn}
+use Rattle.refusal.proofs.Table.{then-table}
+use Rattle.refusal.proofs.Says.{turn}
 use Rattle.planner.proofs.Join.{joined-grows}
 use borrow.Author.Needs.{needs}
 use Rattle.planner.proofs.book.add_order.Statement.{statement}

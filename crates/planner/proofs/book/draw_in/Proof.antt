@@ -4,8 +4,8 @@ use mathlib.Core.Path.{refl}
 use mathlib.Core.Logic.{inl, inr}
 use native.Mathlib.Omega.{arith}
 use Rattle.planner.proofs.Step.{size-is, kept-told, deadline-grows, grows-ready, told-judged, fits-judged, none-judged}
-use Rattle.planner.proofs.Laws.{then-table}
-use Rattle.planner.proofs.Says.{turn}
+use Rattle.refusal.proofs.Table.{then-table}
+use Rattle.refusal.proofs.Says.{turn}
 use Rattle.planner.proofs.Join.{unjoined-ready, unjoined-tight}
 use borrow.Author.Needs.{needs}
 use Rattle.planner.proofs.book.draw_in.Statement.{statement}

@@ -5,9 +5,9 @@ use mathlib.Core.Path.{sym, _∙_}
 use native.Mathlib.Omega.{arith}
 use borrow.Author.Needs.{needs}
 use Rattle.schedule.specs.Count.{count}
-use Rattle.planner.specs.Sets.{has}
+use Rattle.sets.specs.Sets.{has}
 use Rattle.planner.proofs.Best.{Walked, walked-none, walked-all, walked-on}
-use Rattle.planner.proofs.Bits.{rest-walk, rest-less}
+use Rattle.sets.proofs.Bits.{rest-walk, rest-less}
 use Rattle.planner.proofs.choice.next_jobs.Statement.{statement}
 use Rattle.planner.proofs.choice.next_jobs.Tie as tie
 

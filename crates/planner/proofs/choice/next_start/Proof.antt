@@ -5,7 +5,7 @@ use mathlib.Core.Path.{_≡_}
 use Prim.Native.Nat.{_-_, _≤_}
 use native.Mathlib.Omega.{arith}
 use borrow.Author.Needs.{needs}
-use Rattle.planner.specs.Told.{row-in}
+use Rattle.book.specs.Told.{row-in}
 use Rattle.planner.specs.Inner.Choice.{Wakes}
 use Rattle.planner.proofs.Best.{wakes-keep, wakes-take}
 use Rattle.planner.proofs.choice.next_start.Statement.{statement}

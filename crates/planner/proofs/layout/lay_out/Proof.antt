@@ -4,7 +4,7 @@ use mathlib.Core.Logic.{_⊎_, inl, inr}
 use mathlib.Core.Path.{_≡_, refl}
 use Prim.Native.Nat.{_-_, _≤_}
 use native.Mathlib.Omega.{arith}
-use Rattle.planner.specs.Told.{jobs-in, row-in}
+use Rattle.book.specs.Told.{jobs-in, row-in}
 use Rattle.planner.specs.Inner.Layout.{Laid, Late}
 use Rattle.planner.proofs.Laying.{laid-none, slot-left, lays}
 use Rattle.planner.proofs.layout.lay_out.Statement.{statement}

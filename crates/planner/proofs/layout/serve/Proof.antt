@@ -3,7 +3,7 @@
 use mathlib.Core.Path.{_≡_, _∙_}
 use Prim.Native.Nat.{ℕ}
 use Rattle.schedule.specs.Make.{seat}
-use Rattle.planner.specs.Told.{jobs-in, row-in}
+use Rattle.book.specs.Told.{jobs-in, row-in}
 use Rattle.planner.proofs.Serve.{first-is, idle-serves, second-is, lone-serves, full-serves}
 use borrow.Author.Needs.{needs}
 use Rattle.planner.proofs.layout.serve.Statement.{statement}

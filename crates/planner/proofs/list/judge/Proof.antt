@@ -9,8 +9,8 @@ use lib.ListN.{length}
 use Rattle.planner.specs.Judged.{Misshapen}
 use Rattle.planner.specs.Outcome.{times-checks}
 use Rattle.planner.specs.Inner.List.{Spells}
-use Rattle.planner.proofs.Laws.{refuses-each, then-table}
-use Rattle.planner.proofs.Says.{turn-down}
+use Rattle.refusal.proofs.Table.{refuses-each, then-table}
+use Rattle.refusal.proofs.Says.{turn-down}
 use Rattle.planner.proofs.Pairs.{spells-none}
 use Rattle.planner.proofs.Whole.{none-at, number-at, Sound, sound-settleable, settles-judged}
 use Rattle.planner.proofs.list.judge.Statement.{statement}

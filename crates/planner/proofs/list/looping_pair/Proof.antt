@@ -7,7 +7,7 @@ use borrow.Author.Count.{below-none, below-more}
 use borrow.Author.Needs.{needs}
 use lib.ListN.{length}
 use Rattle.planner.specs.Judged.{order-at}
-use Rattle.planner.specs.Table.{Clear}
+use Rattle.refusal.specs.Table.{Clear}
 use Rattle.planner.specs.Inner.List.{Spells}
 use Rattle.planner.proofs.Step.{true-T, false-T}
 use Rattle.planner.proofs.Pairs.{held-both, looping-is, spells-more, spells-held}

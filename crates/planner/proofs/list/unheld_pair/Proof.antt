@@ -8,7 +8,7 @@ use lib.ListN.{length}
 use mathlib.Core.Path.{refl}
 use mathlib.Core.Logic.{inl, inr, ⊎-elim}
 use Rattle.planner.specs.Judged.{pair-at}
-use Rattle.planner.specs.Table.{Clear}
+use Rattle.refusal.specs.Table.{Clear}
 use Rattle.planner.proofs.list.unheld_pair.Statement.{statement}
 use Rattle.planner.proofs.list.unheld_pair.Tie as tie
 

@@ -3,7 +3,7 @@
 use mathlib.Core.Path.{ap, _∙_}
 use Prim.Native.Nat.{_*_}
 use native.Mathlib.Omega.{arith}
-use Rattle.planner.specs.declared.refusal.Answer.the-variants.{Accepted, Refused}
+use Rattle.refusal.specs.declared.Answer.the-variants.{Accepted, Refused}
 use Rattle.planner.specs.Unless.{refused, passed}
 use Rattle.planner.specs.Inner.Planned.{seated}
 use Rattle.planner.proofs.Handed.{layable, finish-fits, plan-writable, plan-written}

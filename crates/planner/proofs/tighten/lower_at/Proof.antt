@@ -8,12 +8,12 @@ use borrow.Author.Needs.{needs}
 use lib.Dec.{T}
 use lib.ListN.{length, length-set, getD}
 use Rattle.schedule.specs.Count.{count}
-use Rattle.planner.specs.Sets.{has}
+use Rattle.sets.specs.Sets.{has}
 use Rattle.schedule.specs.Jobs.{Jobs}
-use Rattle.planner.specs.Told.{row-in}
+use Rattle.book.specs.Told.{row-in}
 use Rattle.planner.specs.Inner.Tables.{Known}
 use Rattle.planner.specs.Inner.Lower.{DueBy, Ruled}
-use Rattle.planner.proofs.Bits.{rest-walk, rest-less, walk-sub}
+use Rattle.sets.proofs.Bits.{rest-walk, rest-less, walk-sub}
 use Rattle.planner.proofs.TightenSink.{Lowering, lowering-start, lowering-moved, lowering-kept, lowering-moves, due-job, stored-low, sunk-none}
 use Rattle.planner.proofs.tighten.lower_at.Statement.{statement}
 use Rattle.planner.proofs.tighten.lower_at.Tie as tie

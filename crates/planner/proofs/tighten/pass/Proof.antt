@@ -10,7 +10,7 @@ use borrow.Author.Tests.{not-true, not-false}
 use Rattle.schedule.specs.Jobs.{Jobs}
 use Rattle.planner.specs.declared.tighten.Moved.{Moved}
 use Rattle.planner.specs.declared.tighten.Moved.the-variants.{Jobs as Those}
-use Rattle.planner.specs.Told.{row-in}
+use Rattle.book.specs.Told.{row-in}
 use Rattle.planner.specs.Inner.Tables.{Known}
 use Rattle.planner.specs.Inner.Lower.{Moves, AtD}
 use Rattle.planner.proofs.TightenDue.{Among, DueBelow, among-start, among-next, due-all, due-by, below-job}

@@ -11,7 +11,7 @@ use Rattle.schedule.specs.Jobs.{Jobs}
 use Rattle.schedule.proofs.Rows.{sum, sum-less}
 use Rattle.planner.specs.declared.tighten.Moved.{Moved}
 use Rattle.planner.specs.declared.tighten.Moved.the-variants.{Jobs as Those}
-use Rattle.planner.specs.Told.{row-in}
+use Rattle.book.specs.Told.{row-in}
 use Rattle.planner.specs.Inner.Tables.{Known}
 use Rattle.planner.specs.Inner.Lower.{Sunk, Moves, Swept}
 use Rattle.planner.proofs.TightenSink.{sunk-same, sunk-join, none-join}

@@ -6,7 +6,7 @@ use native.Mathlib.Omega.{arith}
 use borrow.Author.Needs.{needs}
 use lib.ListN.{getD-replicate}
 use Rattle.schedule.specs.Jobs.{Jobs}
-use Rattle.planner.specs.Told.{jobs-in, row-in}
+use Rattle.book.specs.Told.{jobs-in, row-in}
 use Rattle.planner.specs.Inner.Chains.{joined-rows}
 use Rattle.planner.specs.Inner.Tables.{Known}
 use Rattle.planner.specs.Inner.Lower.{Fits}

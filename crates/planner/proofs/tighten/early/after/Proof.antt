@@ -3,8 +3,8 @@
 use mathlib.Core.Logic.{⊎-elim}
 use native.Mathlib.Omega.{arith}
 use Rattle.schedule.specs.Count.{count}
-use Rattle.planner.specs.Sets.{has}
-use Rattle.planner.proofs.Bits.{rest-walk, rest-less}
+use Rattle.sets.specs.Sets.{has}
+use Rattle.sets.proofs.Bits.{rest-walk, rest-less}
 use Rattle.planner.proofs.TightenEarly.{Reached, reached-start, reached-same, reached-more, reached-after}
 use borrow.Author.Needs.{needs}
 use Rattle.planner.proofs.tighten.early.after.Statement.{statement}

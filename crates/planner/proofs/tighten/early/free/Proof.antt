@@ -6,10 +6,10 @@ use Prim.Native.Nat.{ℕ}
 use lib.Dec.{T}
 use lib.ListN.{getD}
 use Rattle.schedule.specs.Count.{count}
-use Rattle.planner.specs.Sets.{has}
+use Rattle.sets.specs.Sets.{has}
 use Rattle.planner.specs.Inner.Chains.{joined-rows}
 use Rattle.planner.specs.Inner.Early.{Free}
-use Rattle.planner.proofs.Bits.{apart-is, apart-has, has-some, rest-walk, rest-less, walk-split, walk-sub}
+use Rattle.sets.proofs.Bits.{apart-is, apart-has, has-some, rest-walk, rest-less, walk-split, walk-sub}
 use Rattle.planner.proofs.Join.{rows-at, rows-keep}
 use borrow.Author.Needs.{needs}
 use Rattle.planner.proofs.tighten.early.free.Statement.{statement}

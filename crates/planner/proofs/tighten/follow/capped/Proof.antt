@@ -7,12 +7,12 @@ use native.Mathlib.Omega.{arith}
 use borrow.Author.Needs.{needs}
 use lib.Dec.{T}
 use Rattle.schedule.specs.Count.{count}
-use Rattle.planner.specs.Sets.{has}
+use Rattle.sets.specs.Sets.{has}
 use Rattle.schedule.specs.Jobs.{Jobs}
 use Rattle.schedule.specs.Times.{Raised}
-use Rattle.planner.specs.Told.{row-in}
+use Rattle.book.specs.Told.{row-in}
 use Rattle.planner.specs.Inner.Lower.{Eased}
-use Rattle.planner.proofs.Bits.{rest-walk, rest-less, walk-sub}
+use Rattle.sets.proofs.Bits.{rest-walk, rest-less, walk-sub}
 use Rattle.planner.proofs.TightenLower.{eased-same, eased-follow}
 use Rattle.planner.proofs.tighten.follow.capped.Statement.{statement}
 use Rattle.planner.proofs.tighten.follow.capped.Tie as tie

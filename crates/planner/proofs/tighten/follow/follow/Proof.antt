@@ -8,7 +8,7 @@ use lib.Dec.{T}
 use lib.ListN.{length, length-set, getD, set}
 use Rattle.schedule.specs.Jobs.{Jobs}
 use Rattle.schedule.specs.Times.{Raised}
-use Rattle.planner.specs.Told.{row-in}
+use Rattle.book.specs.Told.{row-in}
 use Rattle.planner.specs.Inner.Tables.{Follows}
 use Rattle.planner.specs.Inner.Lower.{Eased, Sunk}
 use Rattle.planner.proofs.TightenSink.{sunk-same, sunk-put, sunk-none, followed}

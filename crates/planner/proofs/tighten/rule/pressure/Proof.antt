@@ -6,7 +6,7 @@ use native.Mathlib.Omega.{arith}
 use lib.ListN.{getD}
 use Rattle.schedule.specs.Jobs.{Jobs}
 use Rattle.schedule.proofs.Counting.{count-bound}
-use Rattle.planner.specs.Inner.Sets.{pressed}
+use Rattle.sets.specs.Walk.{pressed}
 use Rattle.planner.specs.Inner.Lower.{At}
 use Rattle.planner.proofs.TightenPress.{Passed, passed-start, passed-kept, passed-counted, passed-found, passed-none, passed-own, passed-over}
 use borrow.Author.Needs.{needs}

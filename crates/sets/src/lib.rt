@@ -5,8 +5,8 @@ ghost use mathlib.Core.Path.{_≡_};
 ghost use Prim.Native.Nat.{ℕ, _<_, _≤_};
 ghost use lib.Dec.{T, eqb, ltb};
 ghost use Rattle.schedule.specs.Count.{count};
-ghost use Rattle.planner.specs.Sets.{has};
-ghost use Rattle.planner.specs.Inner.Sets.{least, pressed};
+ghost use Rattle.sets.specs.Sets.{has};
+ghost use Rattle.sets.specs.Walk.{least, pressed};
 
 // Whether a job is in the set.
 pub fn has(set: u64, job: JobIndex) -> bool

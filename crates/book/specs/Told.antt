@@ -4,16 +4,26 @@ use mathlib.Core.List.{List, []}
 use mathlib.Core.Path.{_≡_}
 use Prim.Native.Nat.{ℕ, _≤_, _<_}
 use lib.Dec.{T}
-use lib.ListN.{length, getD}
+use lib.ListN.{length, getD, take, drop}
 use Rattle.schedule.specs.Jobs.{Jobs}
 use Rattle.schedule.specs.Listed.{Listed, written}
 use Rattle.schedule.specs.Book.{Holds}
-use Rattle.planner.specs.declared.book.Book.{Book}
-use Rattle.planner.specs.Sets.{has}
+use Rattle.sets.specs.Sets.{has}
 
--- the book that lies in four parts
-abbrev pub held : ℕ → List ℕ → List ℕ → List ℕ → Book
-held size start latest before = record { size = size; start = start; latest = latest; before = before }
+-- how many jobs, their starts and latest times, and for each job the set of those that precede it (01, Requests on a book: "The book holds")
+pub record Book : Type 0 where
+  pub size : ℕ
+  pub start : List ℕ
+  pub latest : List ℕ
+  pub before : List ℕ
+
+-- 64 entries of a row from a place on
+unfoldable pub part : ℕ → List ℕ → List ℕ
+part from row = take 64 (drop from row)
+
+-- the book in lent memory: a row of its size, 64 starts and 64 latest times, and 64 sets
+abbrev pub held : List ℕ → List ℕ → Book
+held times before = record { size = getD times 0 0; start = part 1 times; latest = part 65 times; before = before }
 
 -- the jobs that rows spell: a precedes b where a is in set b (01, Requests on a book: "starts .. and which job precedes which")
 abbrev pub jobs-in : ℕ → List ℕ → List ℕ → Jobs

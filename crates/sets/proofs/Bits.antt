@@ -16,8 +16,8 @@ use lib.Pow.{pow-pos, pow-lt, pow-mono, mod-pow-add, shr-shr, shl-exact}
 use Rattle.schedule.specs.Count.{one, count}
 use Rattle.schedule.proofs.Tests.{test, and-pair, and-fst, and-snd}
 use Rattle.schedule.proofs.Counting.{count-lt, count-but, count-mono}
-use Rattle.planner.specs.Sets.{has}
-use Rattle.planner.specs.Inner.Sets.{least}
+use Rattle.sets.specs.Sets.{has}
+use Rattle.sets.specs.Walk.{least}
 
 -- what holds at 0 and at 1 holds of a digit
 digit : (P : ℕ → Type 0) → P 0 → P 1 → (n : ℕ) → P (n % 2)

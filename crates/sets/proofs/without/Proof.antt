@@ -1,9 +1,9 @@
--- `planner::sets::without` meets its contract.
+-- `sets::without` meets its contract.
 -- Assumes nothing.
 use borrow.Author.Needs.{needs}
-use Rattle.planner.proofs.Bits.{without-has}
-use Rattle.planner.proofs.sets.without.Statement.{statement}
-use Rattle.planner.proofs.sets.without.Tie as tie
+use Rattle.sets.proofs.Bits.{without-has}
+use Rattle.sets.proofs.without.Statement.{statement}
+use Rattle.sets.proofs.without.Tie as tie
 
 shl-result : tie.Need-shl-result
 shl-result c = search needs

@@ -4,7 +4,7 @@ use Prim.Native.Nat.{ℕ}
 use mathlib.Core.Bool.{Bool, not, _&&_, _||_}
 use lib.Count.{trailingZeros}
 use lib.Dec.{eqb}
-use Rattle.planner.specs.Sets.{has}
+use Rattle.sets.specs.Sets.{has}
 
 -- the first job of a set that has one: as many as the zeros below its lowest one
 abbrev pub least : ℕ → ℕ

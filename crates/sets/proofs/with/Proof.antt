@@ -1,9 +1,9 @@
--- `planner::sets::with` meets its contract.
+-- `sets::with` meets its contract.
 -- Assumes nothing.
 use borrow.Author.Needs.{needs}
-use Rattle.planner.proofs.Bits.{with-has}
-use Rattle.planner.proofs.sets.with.Statement.{statement}
-use Rattle.planner.proofs.sets.with.Tie as tie
+use Rattle.sets.proofs.Bits.{with-has}
+use Rattle.sets.proofs.with.Statement.{statement}
+use Rattle.sets.proofs.with.Tie as tie
 
 shl-result : tie.Need-shl-result
 shl-result c = search needs

@@ -1,11 +1,11 @@
--- `planner::sets::size` meets its contract: the count of ones is the count of the numbers in the set.
+-- `sets::size` meets its contract: the count of ones is the count of the numbers in the set.
 -- Assumes nothing.
-use Rattle.planner.proofs.Bits.{ones-count}
+use Rattle.sets.proofs.Bits.{ones-count}
 use native.Mathlib.Omega.{arith}
 use Rattle.schedule.proofs.Counting.{count-bound}
-use Rattle.planner.specs.Sets.{has}
-use Rattle.planner.proofs.sets.size.Statement.{statement}
-use Rattle.planner.proofs.sets.size.Tie as tie
+use Rattle.sets.specs.Sets.{has}
+use Rattle.sets.proofs.size.Statement.{statement}
+use Rattle.sets.proofs.size.Tie as tie
 
 cast-result : tie.Need-cast-result
 cast-result c = record { fits = omega (arith, ones-count 64 (c .args .set) (c .fits .set .fits), count-bound 64 (has (c .args .set))) }

@@ -12,10 +12,10 @@ use lib.Seq.{ext-getD}
 use Rattle.schedule.specs.Listed.{Listed}
 use Rattle.schedule.proofs.Tests.{le-or-lt, same-test}
 use Rattle.schedule.proofs.Same.{reads-one, holds-one}
-use Rattle.planner.specs.declared.book.Book.{Book}
-use Rattle.planner.specs.Sets.{has}
-use Rattle.planner.specs.Told.{jobs-of, latest-of, Told}
-use Rattle.planner.proofs.Bits.{has-same}
+use Rattle.book.specs.Told.{Book}
+use Rattle.sets.specs.Sets.{has}
+use Rattle.book.specs.Told.{jobs-of, latest-of, Told}
+use Rattle.sets.proofs.Bits.{has-same}
 
 -- rows that agree below n and are 0 from there on
 row-same : (n : ℕ) (x y : List ℕ) → length x ≡ 64 → length y ≡ 64 → ((i : ℕ) → i < n → getD x i 0 ≡ getD y i 0) →

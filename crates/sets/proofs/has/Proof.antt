@@ -1,10 +1,10 @@
--- `planner::sets::has` meets its contract.
+-- `sets::has` meets its contract.
 -- Assumes nothing.
 use mathlib.Core.Path.{refl}
-use Rattle.planner.specs.Sets.{has}
+use Rattle.sets.specs.Sets.{has}
 use borrow.Author.Needs.{needs}
-use Rattle.planner.proofs.sets.has.Statement.{statement}
-use Rattle.planner.proofs.sets.has.Tie as tie
+use Rattle.sets.proofs.has.Statement.{statement}
+use Rattle.sets.proofs.has.Tie as tie
 
 shr-result : tie.Need-shr-result
 shr-result c = search needs

@@ -1,11 +1,11 @@
--- `planner::sets::pressing` meets its contract.
+-- `sets::pressing` meets its contract.
 -- Assumes nothing.
 use mathlib.Core.Path.{_∙_}
 use borrow.Author.Needs.{needs}
-use Rattle.planner.specs.Sets.{has}
-use Rattle.planner.proofs.Bits.{and-has, or-has, count-same}
-use Rattle.planner.proofs.sets.pressing.Statement.{statement}
-use Rattle.planner.proofs.sets.pressing.Tie as tie
+use Rattle.sets.specs.Sets.{has}
+use Rattle.sets.proofs.Bits.{and-has, or-has, count-same}
+use Rattle.sets.proofs.pressing.Statement.{statement}
+use Rattle.sets.proofs.pressing.Tie as tie
 
 without-requires : tie.Need-without-requires
 without-requires c κs = search needs

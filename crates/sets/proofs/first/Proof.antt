@@ -1,11 +1,11 @@
--- `planner::sets::first` meets its contract.
+-- `sets::first` meets its contract.
 -- Assumes nothing.
 use mathlib.Core.Path.{refl}
 use native.Mathlib.Omega.{arith}
 use lib.Count.{trailing-le}
-use Rattle.planner.proofs.Bits.{trailing-has, trailing-none}
-use Rattle.planner.proofs.sets.first.Statement.{statement}
-use Rattle.planner.proofs.sets.first.Tie as tie
+use Rattle.sets.proofs.Bits.{trailing-has, trailing-none}
+use Rattle.sets.proofs.first.Statement.{statement}
+use Rattle.sets.proofs.first.Tie as tie
 
 cast-t3 : tie.Need-cast-t3
 cast-t3 c = omega (arith, trailing-le 64 (c .args .set))

@@ -1,4 +1,4 @@
--- `planner::sets::below` meets its contract.
+-- `sets::below` meets its contract.
 -- Assumes nothing.
 use mathlib.Core.Path.{ap, sym, _∙_}
 use native.Mathlib.Omega.{arith}
@@ -6,10 +6,10 @@ use Prim.Native.Nat.{ℕ, _-_}
 use borrow.Author.Needs.{needs}
 use lib.Dec.{ltb}
 use lib.Pow.{pow-pos}
-use Rattle.planner.specs.Sets.{has}
-use Rattle.planner.proofs.Bits.{low-has, only-is}
-use Rattle.planner.proofs.sets.below.Statement.{statement}
-use Rattle.planner.proofs.sets.below.Tie as tie
+use Rattle.sets.specs.Sets.{has}
+use Rattle.sets.proofs.Bits.{low-has, only-is}
+use Rattle.sets.proofs.below.Statement.{statement}
+use Rattle.sets.proofs.below.Tie as tie
 
 returns : tie.Need-returns
 returns c j = low-has 64 j ∙ ap (λ (n : ℕ). ltb j n) (sym (c .if1 .taken))

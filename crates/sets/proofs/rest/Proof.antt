@@ -1,9 +1,9 @@
--- `planner::sets::rest` meets its contract.
+-- `sets::rest` meets its contract.
 -- Assumes nothing.
 use borrow.Author.Needs.{needs}
-use Rattle.planner.proofs.Bits.{rest-has}
-use Rattle.planner.proofs.sets.rest.Statement.{statement}
-use Rattle.planner.proofs.sets.rest.Tie as tie
+use Rattle.sets.proofs.Bits.{rest-has}
+use Rattle.sets.proofs.rest.Statement.{statement}
+use Rattle.sets.proofs.rest.Tie as tie
 
 sub-result : tie.Need-sub-result
 sub-result c = search needs
