@@ -8,7 +8,7 @@ use native.Mathlib.Omega.{arith}
 use lib.ListN.{length, getD, take, drop, set, length-take, length-drop}
 use lib.Seq.{take-set-lt, take-set-le, drop-set-add, drop-set-lt, getD-take, getD-drop, getD-set-same, getD-set-other, ext-getD}
 use Rattle.schedule.proofs.Tests.{le-or-lt}
-use Rattle.book.specs.Told.{Book, part, held}
+use Rattle.book.specs.Told.{Book, part, held, Shaped}
 
 module _ (from : ℕ) (row : List ℕ) where
   pub part-length : from + 64 ≤ length row → length (part from row) ≡ 64
@@ -31,6 +31,11 @@ module _ (from : ℕ) (row : List ℕ) where
       let e : i ≡ from + (i - from) = omega arith in
       ap (λ (k : ℕ). take 64 (drop from (set row k v))) e ∙ ap (take 64) (drop-set-add from row (i - from) v) ∙ take-set-le 64 (drop from row) (i - from) v (omega arith)
 
+-- a book's rows are whole
+pub held-long : (times before : List ℕ) → Shaped (held times before) → 129 ≤ length times
+unfolding part
+held-long times before s = let e = simp (length-take, length-drop) at (s .latests) in omega arith
+
 -- ---- one law for each field that changes
 abbrev pub with-size : Book → ℕ → Book
 with-size k size = record { size = size; start = k .start; latest = k .latest; before = k .before }
@@ -41,7 +46,7 @@ with-start k start = record { size = k .size; start = start; latest = k .latest;
 abbrev pub with-latest : Book → List ℕ → Book
 with-latest k latest = record { size = k .size; start = k .start; latest = latest; before = k .before }
 
-module _ (times before : List ℕ) (long : length times ≡ 129) where
+module _ (times before : List ℕ) (long : 129 ≤ length times) where
   pub held-size : (n : ℕ) → held (set times 0 n) before ≡ with-size (held times before) n
   held-size n = λ i. record { size = getD-set-same times 0 n 0 (omega (arith, long)) i; start = part-out 1 times 0 n (inl (omega arith)) i; latest = part-out 65 times 0 n (inl (omega arith)) i; before = before }
 

@@ -10,6 +10,10 @@ use Rattle.schedule.specs.Listed.{Listed, written}
 use Rattle.schedule.specs.Book.{Holds}
 use Rattle.sets.specs.Sets.{has}
 
+-- the number of cores (01, What the planner covers: "two equal cores")
+abbrev pub cores : ℕ
+cores = 2
+
 -- how many jobs, their starts and latest times, and for each job the set of those that precede it (01, Requests on a book: "The book holds")
 pub record Book : Type 0 where
   pub size : ℕ
@@ -59,7 +63,7 @@ pub record Limited (L : Listed) : Type 0 where
 pub record Told (k : Book) (L : Listed) : Type 0 where
   pub shaped : Shaped k
   pub limited : Limited L
-  pub holds : Holds 2 L (jobs-of k) (latest-of k)
+  pub holds : Holds cores L (jobs-of k) (latest-of k)
 
 -- the list of an empty book (01, Requests on a book: "A book is opened empty")
 abbrev pub nothing-listed : Listed

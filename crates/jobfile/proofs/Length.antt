@@ -13,7 +13,8 @@ use lib.Pow.{pow-mono}
 use Rattle.schedule.specs.Count.{one, count}
 use Rattle.schedule.specs.Listed.{Listed}
 use Rattle.schedule.proofs.Counting.{count-inject, count-longer, count-lt, count-bound}
-use Rattle.schedule.proofs.Rows.{sum, sum-mono}
+use Rattle.schedule.specs.Theory.Sum.{sum}
+use Rattle.schedule.proofs.Rows.{sum-mono}
 use Rattle.book.specs.Told.{Book}
 use Rattle.planner.specs.declared.book.Request.{Request}
 use Rattle.sets.specs.Sets.{has}

@@ -15,10 +15,11 @@ use Rattle.schedule.proofs.Tests.{lt-by, or-left, or-right, or-split, eq→eqb}
 use Rattle.schedule.proofs.Search.{split-last}
 use Rattle.schedule.proofs.Chains.{chain-grows, chain-held, ordered-append}
 use Rattle.sets.specs.Sets.{has}
-use Rattle.planner.specs.Judged.{first-of, second-of, pairs-of, order-at}
+use Rattle.planner.specs.List.{first-of, second-of, pairs-of, order-at}
 use Rattle.refusal.specs.Table.{Clear}
 use Rattle.planner.specs.Inner.List.{Held, Spells, TakesIn}
-use Rattle.planner.proofs.Step.{zeros, none-has}
+use Rattle.book.proofs.Empty.{zeros}
+use Rattle.sets.proofs.Bits.{empty-has}
 
 -- a chain that was, or one through a before b
 abbrev Through : (ℕ → ℕ → Type 0) → ℕ → ℕ → ℕ → ℕ → Type 0
@@ -63,7 +64,7 @@ no-chain (join s t) = no-chain s
 
 pub spells-none : (pairs : List ℕ) → Spells pairs 0 (replicate 64 0)
 unfolding pairs-of
-spells-none pairs = record { long = refl; chains = λ a b. ((λ t. absurd (rw (zeros 64 b, none-has a) at t)), (λ c. absurd (no-chain c))) }
+spells-none pairs = record { long = refl; chains = λ a b. ((λ t. absurd (rw (zeros 64 b, empty-has a) at t)), (λ c. absurd (no-chain c))) }
 
 pub spells-more : (pairs rows next : List ℕ) (n : ℕ) → Spells pairs n rows → TakesIn (first-of pairs n) (second-of pairs n) rows next → Spells pairs (n + 1) next
 spells-more pairs rows next n s f = rw add-one (record { long = ⊎-elim (λ u. rw (u .1) (s .long)) (λ u. u .0) f; chains = go f })

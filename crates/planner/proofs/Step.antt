@@ -4,11 +4,10 @@ use mathlib.Core.Path.{_≡_, refl, sym, ap, subst, _∙_, fun-ext}
 use mathlib.Core.Bool.{Bool, true, false}
 use mathlib.Core.List.{List, [], _∷_}
 use mathlib.Core.Logic.{_⊎_, inl, inr, ⊎-elim}
-use Prim.Native.Nat.{ℕ, zero, suc, _+_, _%_, _^_, min, _≤_, _<_}
-use native.Mathlib.Nat.{zero-div}
+use Prim.Native.Nat.{ℕ, zero, suc, _+_, min, _≤_, _<_}
 use native.Mathlib.Omega.{arith}
-use lib.Dec.{T, eqb}
-use lib.ListN.{length, getD, set, replicate, length-set, length-append, List·getD-eq-default}
+use lib.Dec.{T}
+use lib.ListN.{length, getD, set, length-set, length-append, List·getD-eq-default}
 use lib.Seq.{getD-set-same, getD-set-other}
 use Rattle.schedule.specs.Row.{put}
 use Rattle.schedule.specs.Listed.{Listed, Chain, written, with-job, with-order, with-deadline}
@@ -19,42 +18,15 @@ use Rattle.schedule.proofs.Rows.{put-all, put-other}
 use Rattle.schedule.proofs.Loop.{put-set}
 use Rattle.schedule.proofs.Chains.{reads-closed, reads-loopless, getD-put}
 use Rattle.schedule.proofs.Onward.{Onward, holds-planned, onward-job, onward-order, onward-deadline}
-use Rattle.schedule.proofs.Book.{holds-nothing, holds-followed, holds-kept}
-use Rattle.book.specs.Told.{Book}
-use Rattle.refusal.specs.declared.Answer.the-variants.{Accepted}
-use Rattle.planner.specs.declared.book.Applied.{Applied}
+use Rattle.schedule.proofs.Book.{holds-followed, holds-kept}
 use Rattle.sets.specs.Sets.{has}
-use Rattle.book.specs.Told.{jobs-of, latest-of, row-in, Shaped, Limited, Told, nothing-listed}
-use Rattle.refusal.specs.Table.{refused, passed}
-use Rattle.planner.specs.Outcome.{refusal, acceptance, Judged}
+use Rattle.book.specs.Told.{Book, jobs-of, latest-of, row-in, Shaped, Limited, Told}
+use Rattle.refusal.specs.Table.{Table, refused, passed}
+use Rattle.planner.specs.Requests.{plan-check, Applied, answered, Turned, Grown}
+use Rattle.book.proofs.Parts.{with-latest}
 use Rattle.planner.specs.Inner.Chains.{Links}
 use Rattle.planner.specs.Inner.Tighten.{Tightenable, Tightens}
 use Rattle.schedule.proofs.Same.{plan-one}
-use Rattle.refusal.proofs.Says.{says-accepted, turn}
-
-pub zeros : (n i : ℕ) → _≡_ {A = ℕ} (getD (replicate n 0) i 0) 0
-zeros zero i = refl
-zeros (suc n) zero = refl
-zeros (suc n) (suc i) = zeros n i
-
-pub none-has : (j : ℕ) → has 0 j ≡ false
-unfolding has
-none-has j = ap (λ (n : ℕ). eqb (n % 2) 1) (zero-div (2 ^ j))
-
-pub told-nothing : Told (record { size = 0; start = replicate 64 0; latest = replicate 64 0; before = replicate 64 0 }) nothing-listed
-told-nothing = record {
-  shaped = record {
-    few = omega arith;
-    starts = refl;
-    latests = refl;
-    befores = refl;
-    start-rest = λ i l. zeros 64 i;
-    latest-rest = λ i l. zeros 64 i;
-    before-rest = λ a b t. absurd (rw (zeros 64 b, none-has a) at t);
-  };
-  limited = record { start = λ i l. absurd (omega arith); deadline = λ i l. absurd (omega arith) };
-  holds = holds-nothing 2 _ _ refl;
-}
 
 pub true-T : (b : Bool) → b ≡ true → T b
 true-T b e = rw e tt
@@ -62,10 +34,14 @@ true-T b e = rw e tt
 pub false-T : (b : Bool) → b ≡ false → T b → ⊥
 false-T b e t = rw e at t
 
--- ---- what holds of a list that is held
+-- ---- the last check
+-- 4, and then the request is accepted
+abbrev pub Last : Listed → ℕ → Book → Applied → Type 0
+Last L value k = Table (plan-check L) (Turned k) (Grown L value)
+
 -- a book that holds the enlarged list is accepted
-pub told-judged : (L : Listed) (value : ℕ) (k : Book) (r : Applied) → r .answer ≡ Accepted value → Told (r .book) L → Judged L value k r
-told-judged L value k r e t = passed (λ no. no (holds-planned 2 (omega arith) (omega arith) L (jobs-of (r .book)) (latest-of (r .book)) (t .holds))) (record { answer = says-accepted (r .answer) value .1 e; told = t })
+pub told-last : (L : Listed) (value told : ℕ) (k b : Book) → told ≡ value → Told b L → Last L value k (answered b 0 told)
+told-last L value told k b e t = passed (λ no. no (holds-planned 2 (omega arith) (omega arith) L (jobs-of b) (latest-of b) (t .holds))) (record { accepts = ap (answered b 0) e; told = t })
 
 -- the enlarged list L, and the grown book that the code tightens for it
 pub record Grows (L : Listed) (grown : Book) : Type 0 where
@@ -79,8 +55,9 @@ pub grows-ready : (L : Listed) (grown : Book) → Grows L grown → Tightenable 
 grows-ready L grown g = record {
   few = g .shaped .few;
   long = g .shaped .latests;
+  starts = omega (arith, g .shaped .few, g .shaped .starts);
   early = λ i l. omega (arith, g .onward .reads .start i l, g .limited .start i (omega (arith, g .onward .reads .size)));
-  late = g .late;
+  late = λ i l. omega (arith, g .late i l);
   closed = reads-closed L (jobs-of grown) (g .onward .reads);
   loopless = reads-loopless L (jobs-of grown) (g .onward .reads) (g .onward .loopless);
   held = g .shaped .before-rest;
@@ -92,12 +69,9 @@ pub record Tight (k : Book) (row : List ℕ) : Type 0 where
   pub rest : (i : ℕ) → k .size ≤ i → getD row i 0 ≡ 0
   pub latest : (early : ℕ → ℕ) → Earliest (jobs-of k) early → Latest 2 (jobs-of k) early (latest-of k) (row-in row)
 
-abbrev pub with-latest : Book → List ℕ → Book
-with-latest k row = record { size = k .size; start = k .start; latest = row; before = k .before }
-
 -- the grown book, tightened, is accepted
-pub tight-judged : (L : Listed) (k grown : Book) (told value : ℕ) (row : List ℕ) → told ≡ value → Grows L grown → Tight grown row → Judged L value k (acceptance (with-latest grown row) told)
-tight-judged L k grown told value row e g t = told-judged L value k _ (ap Accepted e) (record {
+pub tight-last : (L : Listed) (k grown : Book) (told value : ℕ) (row : List ℕ) → told ≡ value → Grows L grown → Tight grown row → Last L value k (answered (with-latest grown row) 0 told)
+tight-last L k grown told value row e g t = told-last L value told k (with-latest grown row) e (record {
   shaped = record {
     few = g .shaped .few;
     starts = g .shaped .starts;
@@ -113,12 +87,12 @@ tight-judged L k grown told value row e g t = told-judged L value k _ (ap Accept
 
 module _ (L : Listed) (k grown : Book) (value : ℕ) (row : List ℕ) (fits : Bool) (g : Grows L grown) (t : Tightens (grown .size) (grown .start) (grown .before) (grown .latest) row fits) where
   -- a row that the engine gave back is taken
-  pub fits-judged : (told : ℕ) → told ≡ value → fits ≡ true → Judged L value k (acceptance (with-latest grown row) told)
-  fits-judged told e y = tight-judged L k grown told value row e g (record { size = t .length; rest = λ i l. t .rest y i l ∙ g .shaped .latest-rest i l; latest = t .latest y })
+  pub fits-last : (b : Book) (told : ℕ) → b ≡ with-latest grown row → told ≡ value → fits ≡ true → Last L value k (answered b 0 told)
+  fits-last b told s e y = rw s (tight-last L k grown told value row e g (record { size = t .length; rest = λ i l. t .rest y i l ∙ g .shaped .latest-rest i l; latest = t .latest y }))
 
   -- or the request is refused
-  pub none-judged : (r : Applied) → r ≡ refusal k 4 → fits ≡ false → Judged L value k r
-  none-judged r e n = rw e (turn (omega arith) ((λ p. t .none n (g .onward .plans (plan-one 2 L (p .0) (jobs-of grown) (written L) (p .1) (g .onward .reads) (p .2)))), refl, refl))
+  pub none-last : (b : Book) → b ≡ k → fits ≡ false → Last L value k (answered b 4 0)
+  none-last b s n = refused 4 0 ((λ p. t .none n (g .onward .plans (plan-one 2 L (p .0) (jobs-of grown) (written L) (p .1) (g .onward .reads) (p .2)))), refl, refl) (ap (λ (k : Book). answered k 4 0) s)
 
 -- an entry stored and put back
 pub set-back : (l : List ℕ) (k v : ℕ) → set (set l k v) k (getD l k 0) ≡ l

@@ -77,12 +77,12 @@ module _ (J : Jobs) (early : ℕ → ℕ) (e : Earliest J early) where
       }
 
   -- no job is later than the last start and a slot for each job
-  pub earliest-low : Closed J → Loopless J → ((i : ℕ) → i < J .size → J .start i ≤ 4095) → (i : ℕ) → i < J .size → early i ≤ 4095 + J .size
-  earliest-low closed loopless h i l =
+  pub earliest-low : Closed J → Loopless J → (last : ℕ) → ((i : ℕ) → i < J .size → J .start i ≤ last) → (i : ℕ) → i < J .size → early i ≤ last + J .size
+  earliest-low closed loopless last h i l =
       omega (
         arith,
         count-bound (J .size) (λ a. J .before a i),
-        e .least (λ j. 4095 + count (J .size) (λ a. J .before a j)) (record {
+        e .least (λ j. last + count (J .size) (λ a. J .before a j)) (record {
           above = λ j lj. omega (arith, h j lj);
           apart = λ a b la lb t.
               let less : count (J .size) (λ x. J .before x a) < count (J .size) (λ x. J .before x b) =
@@ -175,7 +175,7 @@ module _ {size : ℕ} {start before : List ℕ} (s : Startable size start before
 
         -- the time fits in 16 digits
         pub making-time : time < 65535
-        making-time = omega (arith, timed, s .few, earliest-low J E e (s .closed) (s .loopless) (s .starts) i li)
+        making-time = omega (arith, timed, s .few, earliest-low J E e (s .closed) (s .loopless) 65470 (s .starts) i li)
 
         pub making-next : k < size → (more : ℕ) → ((j : ℕ) → has more j ≡ (has todo j && not (eqb j i))) → Making size start before (set early i time) (set order k i) more (k + 1)
         making-next l more w = record {
@@ -196,7 +196,7 @@ module _ {size : ℕ} {start before : List ℕ} (s : Startable size start before
     pub making-end : size ≤ k → Begins size start before early order
     making-end h = record {
       earliest = earliest-same J E (row-in early) all e;
-      low = λ i l. omega (arith, all i l, s .few, earliest-low J E e (s .closed) (s .loopless) (s .starts) i l);
+      low = λ i l. omega (arith, all i l, s .few, earliest-low J E e (s .closed) (s .loopless) 65470 (s .starts) i l);
       jobs = λ l x. q .jobs l (omega arith);
     }
       where

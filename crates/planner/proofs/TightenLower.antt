@@ -13,7 +13,7 @@ use Rattle.schedule.proofs.Rows.{put-all, put-le}
 use Rattle.schedule.proofs.Sound.{valid-above}
 use Rattle.schedule.proofs.Facts.{follower-later}
 use Rattle.schedule.proofs.Lower.{plan-under, row-under}
-use Rattle.schedule.proofs.Exist.{Bound}
+use Rattle.schedule.specs.Theory.Bound.{Bound}
 use Rattle.planner.specs.Inner.Lower.{Pressure, Eased, Ruled}
 
 -- one bound after another

@@ -14,16 +14,17 @@ use Rattle.schedule.proofs.Tests.{le-by}
 use Rattle.schedule.proofs.Early.{exists-earliest}
 use Rattle.schedule.proofs.Chains.{reads-closed, reads-loopless}
 use Rattle.schedule.proofs.Renumber.{latest-along}
-use Rattle.refusal.specs.declared.Answer.{Answer}
 use Rattle.book.specs.Told.{jobs-in, row-in}
 use Rattle.refusal.specs.Table.{Checks, Clear, Refuses, Table, refused, passed}
-use Rattle.planner.specs.Outcome.{times-checks, plan-check}
-use Rattle.planner.specs.Judged.{list-of, job-at, order-at, TurnedDown, Fitted}
-use Rattle.planner.specs.Inner.List.{First, Numbers, Held, Spells, Settleable, HandsOut, none, fits}
+use Rattle.planner.specs.Requests.{times-checks, plan-check}
+use Rattle.planner.specs.List.{list-of, job-at, order-at, rows-checks, SoundRows, Judged, judged, TurnedDown, Fitted, Judges}
+use Rattle.planner.specs.Inner.List.{First, Numbers, Held, Spells, Settleable, Settles}
 use Rattle.schedule.proofs.Same.{reads-one, plan-one}
 use Rattle.schedule.proofs.Onward.{holds-planned}
-use Rattle.refusal.proofs.Table.{refuses-not-clear}
-use Rattle.refusal.proofs.Says.{says-accepted, says-refused}
+use Rattle.refusal.specs.declared.Answer.{Answer}
+use Rattle.refusal.specs.Says.{Says}
+use Rattle.refusal.proofs.Table.{refuses-not-clear, table-then}
+use Rattle.refusal.proofs.Says.{says-more}
 use Rattle.planner.proofs.Pairs.{pairs-held, pairs-loopless, spells-held}
 
 -- ---- a check of every place that found none
@@ -90,10 +91,14 @@ module _ (starts deadlines pairs before : List ℕ) (s : Sound starts deadlines 
       }
 
   -- the last check
-  pub settles-judged : (row after : List ℕ) (r : Answer) → HandsOut starts deadlines before row after r →
-      Table (plan-check L) (TurnedDown row) (Fitted L row) (record { answer = r; row = after })
+  pub settles-judged : (row : List ℕ) (r : Judged) → Settles starts deadlines before row r → Table (plan-check L) (TurnedDown row) (Fitted L row) r
   unfolding written
-  settles-judged row after r (none x e w) = refused 4 0 ((λ p. x (plan-one 2 L (p .0) J (written L) (p .1) reads (p .2))), refl, refl) (record { answer = says-refused r 4 0 (omega arith) .1 e; row = w })
-  settles-judged row after r (fits times x e h) =
-      let holds = holds-row (row-in times) (row-in after) (h .front) x in
-      passed (λ no. no (holds-planned 2 (omega arith) (omega arith) L J (row-in after) holds)) (record { answer = says-accepted r 0 .1 e; same-length = h .same-length; jobs = J; holds = holds; rest = h .rest })
+  settles-judged row r (refused n v x e) = refused n v ((λ p. x .0 (plan-one 2 L (p .0) J (written L) (p .1) reads (p .2))), x .1, x .2) e
+  settles-judged row r (passed free x) =
+      let holds = holds-row (row-in (x .times)) (row-in (r .row)) (x .handed .front) (x .latest) in
+      passed (λ no. no (holds-planned 2 (omega arith) (omega arith) L J (row-in (r .row)) holds)) (record { accepts = x .accepts; same-length = x .handed .same-length; jobs = J; holds = holds; rest = x .handed .rest })
+
+  -- and so all of them
+  pub settles-says : (row after : List ℕ) (r : Answer) → SoundRows starts deadlines pairs row → Says r (λ n v. Settles starts deadlines before row (judged after n v)) →
+      Says r (λ n v. Judges starts deadlines pairs row (judged after n v))
+  settles-says row after r h x = says-more _ _ r (λ n v y. table-then (rows-checks starts deadlines pairs row) (plan-check L) (TurnedDown row) (Fitted L row) _ h (settles-judged row _ y)) x

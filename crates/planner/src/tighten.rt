@@ -4,9 +4,8 @@ mod follow;
 mod rule;
 mod tables;
 
-use crate::sets;
+use crate::chains::Pending;
 use crate::times::wide;
-use schedule::JobIndex;
 ghost use mathlib.Core.Path.{_≡_};
 ghost use Prim.Native.Nat.{ℕ, _<_, _≤_};
 ghost use lib.Dec.{T};
@@ -25,24 +24,22 @@ enum Moved {
     Shut,
 }
 
-// The latest row beneath the row lent, in its place; false where no plan meets it.
-// The second job and all that follow it wait for `more` too: a new order's jobs, and else none.
+// The latest row beneath the row lent, in its place, with the order pending; false where no plan meets it.
 pub fn tighten<'a>(
     size: usize,
-    start: &'a [u16; 64],
+    start: &'a [u16],
     before: &'a [u64; 64],
-    second: JobIndex,
-    more: u64,
+    pending: Pending,
     row: &mut [u16; 64],
 ) -> bool
-    requires { ⌜ (second .0 < 64) × Tightenable size (now start) (joined-rows (now before) (second .0) more) (now row) ⌝ }
-    ensures { λ r. ⌜ Tightens size (now (start .entry)) (joined-rows (now (before .entry)) (second .0) more) (now (row .entry)) (now (row .exit)) r ⌝ }
+    requires { ⌜ (pending .job .0 < 64) × Tightenable size (now start) (joined-rows (now before) pending) (now row) ⌝ }
+    ensures { λ r. ⌜ Tightens size (now (start .entry)) (joined-rows (now (before .entry)) pending) (now (row .entry)) (now (row .exit)) r ⌝ }
 {
     let mut early = [0u16; 64];
     let mut order = [0u8; 64];
-    early::earliest(size, start, before, second, more, &mut early, &mut order);
+    early::earliest(size, start, before, pending, &mut early, &mut order);
     let mut followers = [0u64; 64];
-    tables::followers(size, before, second, more, &mut followers);
+    tables::followers(size, before, pending, &mut followers);
     let mut times = [65535u16; 65];
     let mut late = [0u64; 65];
     let mut rank = [0u8; 64];

@@ -55,6 +55,11 @@ Each P (check number value fault) = P number
 Each P (a then b) = Each P a × Each P b
 Each P (places m at) = (i : ℕ) → Each P (at i)
 
+pub each-map : (P Q : ℕ → Type 0) (checks : Checks) → ((n : ℕ) → P n → Q n) → Each P checks → Each Q checks
+each-map P Q (check number value fault) f x = f number x
+each-map P Q (a then b) f x = (each-map P Q a f (x .0), each-map P Q b f (x .1))
+each-map P Q (places m at) f x = λ i. each-map P Q (at i) f (x i)
+
 pub among-each : (P : ℕ → Type 0) (checks : Checks) (n : ℕ) → Each P checks → Among checks n → P n
 among-each P (check number value fault) n each x = rw x each
 among-each P (a then b) n each (inl x) = among-each P a n (each .0) x

@@ -6,7 +6,7 @@ use Prim.Native.Nat.{ℕ, _+_}
 use lib.Count.{ones}
 use lib.ListN.{length, getD}
 use lib.Seq.{sets}
-use Rattle.schedule.proofs.Rows.{sum}
+use Rattle.schedule.specs.Theory.Sum.{sum}
 
 -- the sizes of the first sets together
 abbrev pub pairs-in : ℕ → List ℕ → ℕ

@@ -5,7 +5,7 @@ use mathlib.Core.Logic.{_⊎_}
 use mathlib.Core.Path.{_≡_}
 use Prim.Native.Nat.{ℕ, _+_, _≤_, _<_}
 use lib.Dec.{T}
-use lib.ListN.{getD}
+use lib.ListN.{length, getD}
 use Rattle.schedule.specs.Jobs.{Closed, Loopless}
 use Rattle.schedule.specs.Times.{Earliest}
 use Rattle.sets.specs.Sets.{has}
@@ -22,10 +22,11 @@ pub record After (start set : ℕ) (early : List ℕ) (time : ℕ) : Type 0 wher
   pub later : (a : ℕ) → T (has set a) → getD early a 0 + 1 ≤ time
   pub some : (time ≡ start) ⊎ ((a : ℕ) × T (has set a) × (time ≡ getD early a 0 + 1))
 
--- rows that have earliest times
+-- rows that have earliest times: at most the last start and a slot for each job, below 65535
 pub record Startable (size : ℕ) (start before : List ℕ) : Type 0 where
   pub few : size ≤ 64
-  pub starts : (i : ℕ) → i < size → getD start i 0 ≤ 4095
+  pub long : size ≤ length start
+  pub starts : (i : ℕ) → i < size → getD start i 0 ≤ 65470
   pub closed : Closed (jobs-in size start before)
   pub loopless : Loopless (jobs-in size start before)
   pub held : (a b : ℕ) → T (has (getD before b 0) a) → (a < size) × (b < size)

@@ -10,14 +10,13 @@ use Rattle.schedule.specs.Jobs.{Closed, Loopless}
 use Rattle.schedule.specs.Plan.{HasPlan}
 use Rattle.schedule.specs.Times.{Earliest, Latest}
 use Rattle.schedule.specs.Listed.{Chain}
-use Rattle.refusal.specs.declared.Answer.{Answer}
-use Rattle.refusal.specs.declared.Answer.the-variants.{Accepted, Refused}
 use Rattle.sets.specs.Sets.{has}
-use Rattle.book.specs.Told.{jobs-in, row-in}
-use Rattle.planner.specs.Judged.{pairs-of, pair-at, order-at}
-use Rattle.refusal.specs.Table.{Checks, Clear, Refuses}
-use Rattle.planner.specs.Outcome.{times-checks}
+use Rattle.book.specs.Told.{cores, jobs-in, row-in}
+use Rattle.planner.specs.List.{pairs-of, pair-at, order-at, Judged, judged, TurnedDown}
+use Rattle.refusal.specs.Table.{Checks, check, Clear, Refuses, Table}
+use Rattle.planner.specs.Requests.{times-checks}
 use Rattle.planner.specs.Inner.Chains.{Links}
+use Rattle.planner.specs.Inner.Rows.{Hands}
 
 -- the first place below n at which a check finds its fault, or n where none does
 pub record First (n : ℕ) (at : ℕ → Checks) (r : ℕ) : Type 0 where
@@ -48,12 +47,6 @@ pub record Loops (pairs rows : List ℕ) (r : ℕ) : Type 0 where
 abbrev pub TakesIn : ℕ → ℕ → List ℕ → List ℕ → Type 0
 TakesIn a b old new = (T (has (getD old b 0) a) × (new ≡ old)) ⊎ ((length new ≡ 64) × Links a b old new)
 
--- the first entries of a row, and the rest as it was
-pub record Hands (size : ℕ) (times row after : List ℕ) : Type 0 where
-  pub same-length : length after ≡ length row
-  pub front : (i : ℕ) → i < size → getD after i 0 ≡ getD times i 0
-  pub rest : (i : ℕ) → size ≤ i → getD after i 0 ≡ getD row i 0
-
 -- rows to settle: what tightening asks of them, and the receiving row has room
 pub record Settleable (starts deadlines before row : List ℕ) : Type 0 where
   pub even : length starts ≡ length deadlines
@@ -66,8 +59,14 @@ pub record Settleable (starts deadlines before row : List ℕ) : Type 0 where
   pub loopless : Loopless (jobs-in (length starts) starts before)
   pub held : (a b : ℕ) → T (has (getD before b 0) a) → (a < length starts) × (b < length starts)
 
--- the latest times handed out, or refusal 4 and the row as it was
-pub data HandsOut (starts deadlines before row after : List ℕ) (r : Answer) : Type 0 where
-  none : (HasPlan 2 (jobs-in (length starts) starts before) (row-in deadlines) → ⊥) → r ≡ Refused 4 0 → after ≡ row → HandsOut starts deadlines before row after r
-  fits : (times : List ℕ) → ((early : ℕ → ℕ) → Earliest (jobs-in (length starts) starts before) early → Latest 2 (jobs-in (length starts) starts before) early (row-in deadlines) (row-in times)) →
-      r ≡ Accepted 0 → Hands (length starts) times row after → HandsOut starts deadlines before row after r
+-- accepted with 0: the latest times in the receiving row
+pub record Settled (starts deadlines before row : List ℕ) (r : Judged) : Type 0 where
+  pub accepts : r ≡ judged (r .row) 0 0
+  pub times : List ℕ
+  pub latest : (early : ℕ → ℕ) → Earliest (jobs-in (length starts) starts before) early → Latest cores (jobs-in (length starts) starts before) early (row-in deadlines) (row-in times)
+  pub handed : Hands (length starts) times row (r .row)
+
+-- 4 where no plan meets the deadlines, and the row as it was; else the latest times
+abbrev pub Settles : List ℕ → List ℕ → List ℕ → List ℕ → Judged → Type 0
+Settles starts deadlines before row =
+    Table (check 4 0 (HasPlan cores (jobs-in (length starts) starts before) (row-in deadlines) → ⊥)) (TurnedDown row) (Settled starts deadlines before row)

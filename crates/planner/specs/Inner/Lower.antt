@@ -11,7 +11,7 @@ use Rattle.schedule.specs.Jobs.{Jobs}
 use Rattle.schedule.specs.Row.{put}
 use Rattle.schedule.specs.Plan.{HasPlan}
 use Rattle.schedule.specs.Times.{N, Within, Breach}
-use Rattle.schedule.proofs.Exist.{Bound}
+use Rattle.schedule.specs.Theory.Bound.{Bound}
 use Rattle.planner.specs.declared.tighten.Moved.{Moved}
 use Rattle.planner.specs.declared.tighten.Moved.the-variants.{Jobs as Those, Shut}
 use Rattle.planner.specs.declared.tighten.Due.{Due}

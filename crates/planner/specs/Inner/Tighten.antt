@@ -12,12 +12,13 @@ use Rattle.schedule.specs.Times.{Earliest, Latest}
 use Rattle.sets.specs.Sets.{has}
 use Rattle.book.specs.Told.{jobs-in, row-in}
 
--- rows that may be tightened: at most 64 jobs, in their limits, closed under chains, without a loop
+-- rows that may be tightened: at most 64 jobs, times of 16 bits, starts so early that each earliest time is below 65535, closed under chains, without a loop
 pub record Tightenable (size : ℕ) (start before row : List ℕ) : Type 0 where
   pub few : size ≤ 64
   pub long : length row ≡ 64
-  pub early : (i : ℕ) → i < size → getD start i 0 ≤ 4095
-  pub late : (i : ℕ) → i < size → getD row i 0 ≤ 4096
+  pub starts : size ≤ length start
+  pub early : (i : ℕ) → i < size → getD start i 0 ≤ 65470
+  pub late : (i : ℕ) → i < size → getD row i 0 < 65536
   pub closed : Closed (jobs-in size start before)
   pub loopless : Loopless (jobs-in size start before)
   pub held : (a b : ℕ) → T (has (getD before b 0) a) → (a < size) × (b < size)

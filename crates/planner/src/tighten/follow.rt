@@ -1,5 +1,4 @@
 // Each job one below its least follower.
-use crate::sets;
 use schedule::JobIndex;
 ghost use mathlib.Core.Path.{_≡_};
 ghost use Prim.Native.Nat.{ℕ, _<_, _≤_};

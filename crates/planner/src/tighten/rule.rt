@@ -1,5 +1,4 @@
 // The rule for one job and one d.
-use crate::sets;
 use crate::times::wide;
 use schedule::JobIndex;
 ghost use mathlib.Core.Path.{_≡_};

@@ -7,7 +7,7 @@ use lib.Count.{ones}
 use lib.ListN.{getD}
 use native.Mathlib.Omega.{arith}
 use borrow.Author.Needs.{needs}
-use Rattle.schedule.proofs.Rows.{sum}
+use Rattle.schedule.specs.Theory.Sum.{sum}
 use Rattle.jobfile.specs.Inner.Write.{pairs-in}
 use Rattle.jobfile.proofs.writer.pairs.Statement.{statement}
 use Rattle.jobfile.proofs.writer.pairs.Tie as tie

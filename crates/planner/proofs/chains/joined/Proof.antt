@@ -12,7 +12,7 @@ has-requires : tie.Need-has-requires
 has-requires c κs = search needs
 
 returns : tie.Need-returns
-returns c = simp (sym (c .before .before .with .ensures _) ∙ sym (c .before .has .ensures) ∙ c .if1 .taken)
+returns c = simp (sym (c .before .before .before .with .ensures _) ∙ sym (c .before .before .has .ensures) ∙ c .before .if1 .taken)
 
 returns-2 : tie.Need-returns-2
 returns-2 c = simp (sym (c .before .before .with .ensures _) ∙ sym (c .before .has .ensures) ∙ c .if1 .left)

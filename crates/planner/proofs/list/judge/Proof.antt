@@ -3,16 +3,17 @@
 use mathlib.Core.Logic.{inl, inr, ⊎-elim}
 use mathlib.Core.Path.{_≡_, refl}
 use Prim.Native.Nat.{_/_, _≤_}
+use native.Mathlib.Nat.{not-le-of-lt}
 use native.Mathlib.Omega.{arith}
 use borrow.Author.Needs.{needs}
 use lib.ListN.{length}
-use Rattle.planner.specs.Judged.{Misshapen}
-use Rattle.planner.specs.Outcome.{times-checks}
+use Rattle.planner.specs.List.{Misshapen}
+use Rattle.planner.specs.Requests.{times-checks}
 use Rattle.planner.specs.Inner.List.{Spells}
-use Rattle.refusal.proofs.Table.{refuses-each, then-table}
-use Rattle.refusal.proofs.Says.{turn-down}
+use Rattle.refusal.proofs.Table.{refuses-each}
+use Rattle.refusal.specs.Table.{refused}
 use Rattle.planner.proofs.Pairs.{spells-none}
-use Rattle.planner.proofs.Whole.{none-at, number-at, Sound, sound-settleable, settles-judged}
+use Rattle.planner.proofs.Whole.{none-at, number-at, Sound, sound-settleable, settles-says}
 use Rattle.planner.proofs.list.judge.Statement.{statement}
 use Rattle.planner.proofs.list.judge.Tie as tie
 
@@ -36,16 +37,16 @@ spells c =
     rw e at (c .before .looping-pair .ensures .spells)
 
 returns : tie.Need-returns
-returns c = turn-down (omega arith) (inl (inl (inl (c .if1 .taken), refl, refl)))
+returns c = (omega arith, refused _ _ (inl (inl (inl (c .if1 .taken), refl, refl))) refl)
 
 returns-2 : tie.Need-returns-2
-returns-2 c = turn-down (omega arith) (inl (inl (inr (inl (c .if2 .taken)), refl, refl)))
+returns-2 c = (omega arith, refused _ _ (inl (inl (inr (inl (c .if2 .taken)), refl, refl))) refl)
 
 returns-3 : tie.Need-returns-3
-returns-3 c = turn-down (omega arith) (inl (inl (inr (inr (c .if3 .taken)), refl, refl)))
+returns-3 c = (omega arith, refused _ _ (inl (inl (inr (inr (c .if3 .taken)), refl, refl))) refl)
 
 returns-4 : tie.Need-returns-4
-returns-4 c = turn-down (omega arith) (inl (inr (shape (c .before), inl (c .if4 .taken, refl, refl))))
+returns-4 c = (omega arith, refused _ _ (inl (inr (shape (c .before), inl (c .if4 .taken, refl, refl)))) refl)
 
 unsound-job-requires : tie.Need-unsound-job-requires
 unsound-job-requires c κs = search needs
@@ -70,7 +71,7 @@ returns-5 c =
     let u = c .before .before .before .before .unsound-job in
     let l = c .before .before .before .if5 .taken in
     let x = number-at _ _ _ _ _ _ (c .fault .ensures) (u .ensures .found l .1) in
-    turn-down (refuses-each (λ n. 1 ≤ n) (times-checks _ _ _) _ _ (omega arith, omega arith) x) (inl (inr (shape (c .before .before .before .before .before .before), inr ((λ g. omega arith), inl (u .result .0, l, u .ensures .before, x)))))
+    (refuses-each (λ n. 1 ≤ n) (times-checks _ _ _) _ _ (omega arith, omega arith) x, refused _ _ (inl (inr (shape (c .before .before .before .before .before .before), inr ((λ g. omega arith), inl (u .result .0, l, u .ensures .before, x))))) refl)
 
 unheld-pair-requires : tie.Need-unheld-pair-requires
 unheld-pair-requires c κs = search needs
@@ -78,17 +79,19 @@ unheld-pair-requires c κs = search needs
 returns-6 : tie.Need-returns-6
 returns-6 c =
     let u = c .before .unheld-pair in
-    let l = c .if6 .taken in
-    turn-down (omega arith) (inl (inr (
-      shape (c .before .before .before .before .before),
-      inr (
-        (λ g. omega arith),
+    let l = c .if6 .taken in (
+      omega arith,
+      refused _ _ (inl (inr (
+        shape (c .before .before .before .before .before),
         inr (
-          none-at _ _ _ (c .before .before .before .unsound-job .ensures) (c .before .before .if5 .left),
-          inl (u .result, l, u .ensures .before, (u .ensures .found l .1 .0, refl, refl)),
+          (λ g. omega arith),
+          inr (
+            none-at _ _ _ (c .before .before .before .unsound-job .ensures) (c .before .before .if5 .left),
+            inl (u .result, l, u .ensures .before, (u .ensures .found l .1 .0, refl, refl)),
+          ),
         ),
-      ),
-    )))
+      ))) refl,
+    )
 
 looping-pair-requires : tie.Need-looping-pair-requires
 looping-pair-requires c κs =
@@ -97,20 +100,22 @@ looping-pair-requires c κs =
 returns-7 : tie.Need-returns-7
 returns-7 c =
     let u = c .before .looping-pair in
-    let l = c .if7 .taken in
-    turn-down (omega arith) (inl (inr (
-      shape (c .before .before .before .before .before .before .before .before),
-      inr (
-        (λ g. omega arith),
+    let l = c .if7 .taken in (
+      omega arith,
+      refused _ _ (inl (inr (
+        shape (c .before .before .before .before .before .before .before .before),
         inr (
-          none-at _ _ _ (c .before .before .before .before .before .before .unsound-job .ensures) (c .before .before .before .before .before .if5 .left),
+          (λ g. omega arith),
           inr (
-            none-at _ _ _ (c .before .before .before .before .unheld-pair .ensures) (c .before .before .before .if6 .left),
-            (u .result, l, u .ensures .first .before, (u .ensures .first .found l .1 .0, refl, refl)),
+            none-at _ _ _ (c .before .before .before .before .before .before .unsound-job .ensures) (c .before .before .before .before .before .if5 .left),
+            inr (
+              none-at _ _ _ (c .before .before .before .before .unheld-pair .ensures) (c .before .before .before .if6 .left),
+              (u .result, l, u .ensures .first .before, (u .ensures .first .found l .1 .0, refl, refl)),
+            ),
           ),
         ),
-      ),
-    )))
+      ))) refl,
+    )
 
 settle-requires : tie.Need-settle-requires
 settle-requires c κs = sound-settleable _ _ _ _ (sound (c .before .before)) (spells (c .before .before)) _ (search needs)
@@ -120,9 +125,11 @@ same-length c = search needs
 
 returns-8 : tie.Need-returns-8
 returns-8 c =
-    let s = sound (c .before .before .before .before .before) in
-    then-table (shape (c .before .before .before .before .before .before .before .before .before .before .before .before .before), ((λ g. omega arith), (s .jobs, (s .held .below, s .free))))
-    (settles-judged _ _ _ _ s (spells (c .before .before .before .before .before)) _ _ _ (c .before .before .settle .ensures))
+    let e = c .before .before .before .before .before in
+    let a = e .before .before .before .before .before .before .before .before .before .before .before .before .before .before .before .args in
+    let s = sound e in
+    settles-says (a .starts .now) (a .deadlines .now) (a .pairs .now) _ s (spells e) (a .latest .now) (c .before .before .settle .last .1 .1 .1 .0) (c .before .before .settle .result)
+    (shape (e .before .before .before .before .before .before .before .before), ((λ g. not-le-of-lt g (s .few)), (s .jobs, (s .held .below, s .free)))) (c .before .before .settle .ensures)
 
 pub judge-spec : {M : Type 1} → statement M
 judge-spec =

@@ -6,7 +6,7 @@ use native.Mathlib.Omega.{arith}
 use borrow.Author.Count.{below-none, below-more}
 use borrow.Author.Needs.{needs}
 use lib.ListN.{length}
-use Rattle.planner.specs.Judged.{order-at}
+use Rattle.planner.specs.List.{order-at}
 use Rattle.refusal.specs.Table.{Clear}
 use Rattle.planner.specs.Inner.List.{Spells}
 use Rattle.planner.proofs.Step.{true-T, false-T}

@@ -7,7 +7,7 @@ use borrow.Author.Needs.{needs}
 use lib.ListN.{length}
 use mathlib.Core.Path.{refl}
 use mathlib.Core.Logic.{inl, inr, ⊎-elim}
-use Rattle.planner.specs.Judged.{pair-at}
+use Rattle.planner.specs.List.{pair-at}
 use Rattle.refusal.specs.Table.{Clear}
 use Rattle.planner.proofs.list.unheld_pair.Statement.{statement}
 use Rattle.planner.proofs.list.unheld_pair.Tie as tie

@@ -5,7 +5,7 @@ use native.Mathlib.Omega.{arith}
 use borrow.Author.Count.{below-none, below-more}
 use borrow.Author.Needs.{needs}
 use lib.ListN.{length}
-use Rattle.planner.specs.Judged.{job-at}
+use Rattle.planner.specs.List.{job-at}
 use Rattle.refusal.specs.Table.{Clear}
 use Rattle.planner.proofs.list.unsound_job.Statement.{statement}
 use Rattle.planner.proofs.list.unsound_job.Tie as tie

@@ -8,7 +8,8 @@ use lib.Dec.{T}
 use lib.ListN.{length, getD}
 use mathlib.Core.List.{List}
 use Rattle.schedule.specs.Jobs.{Jobs}
-use Rattle.schedule.proofs.Rows.{sum, sum-less}
+use Rattle.schedule.specs.Theory.Sum.{sum}
+use Rattle.schedule.proofs.Rows.{sum-less}
 use Rattle.planner.specs.declared.tighten.Moved.{Moved}
 use Rattle.planner.specs.declared.tighten.Moved.the-variants.{Jobs as Those}
 use Rattle.book.specs.Told.{row-in}

@@ -11,44 +11,53 @@ use Rattle.planner.proofs.tighten.early.earliest.Statement.{statement}
 use Rattle.planner.proofs.tighten.early.earliest.Tie as tie
 
 abbrev Inv-loop : tie.InvT-loop
-Inv-loop size start before second more early₀ order₀ todo₀ k₀ early order todo k = Making size start (joined-rows before (second .0) more) early order todo k
+Inv-loop size start before pending early₀ order₀ todo₀ k₀ early order todo k = Making size start (joined-rows before pending) early order todo k
 
 abbrev μ-loop : tie.MeasureT-loop
-μ-loop size start before second more early₀ order₀ todo₀ k₀ early order todo k = size - k
+μ-loop size start before pending early₀ order₀ todo₀ k₀ early order todo k = size - k
 
 below-requires : tie.Need-below-requires Inv-loop μ-loop
-below-requires c κs = c .pre .1 .few
+below-requires c κs = c .before .pre .1 .few
 
 loop-holds : tie.Need-loop-holds Inv-loop μ-loop
-loop-holds c = making-start (c .before .pre .1) _ _ _ (c .before .pre .2) (c .before .pre .3) (c .below .ensures)
+loop-holds c = making-start (c .before .before .pre .1) _ _ _ (c .before .before .pre .2) (c .before .before .pre .3) (c .below .ensures)
 
 free-requires : tie.Need-free-requires Inv-loop μ-loop
 free-requires c κs =
     let p = c .before in
-    let start = p .before .before in
+    let start = p .before .before .before in
     (start .pre .0, making-free (start .pre .1) (p .loop .inv) (search needs))
 
 row-of-requires : tie.Need-row-of-requires Inv-loop μ-loop
 row-of-requires c κs = search needs
 
-time-at-requires : tie.Need-time-at-requires Inv-loop μ-loop
-time-at-requires c κs = search needs
+mul-wide : tie.Need-mul-wide Inv-loop μ-loop
+mul-wide c = search needs
+
+shared-slice-read-wide : tie.Need-shared-slice-read-wide Inv-loop μ-loop
+shared-slice-read-wide c =
+    let f = c .before .before in
+    let p = f .before .before in
+    omega (arith, p .loop .inv .held _ (f .free .ensures .1 .member), p .before .before .before .pre .1 .long)
+
+wide-requires : tie.Need-wide-requires Inv-loop μ-loop
+wide-requires c κs = search needs
 
 after-requires : tie.Need-after-requires Inv-loop μ-loop
 after-requires c κs = search needs
 
 -- what is read is the start and the joined row of the job
-timed : (c : tie.After-after Inv-loop μ-loop) → let f = c .before .before .before .before in let a = f .before .before .before .before .args in
-    After (getD (a .start .now) (f .free .result .0) 0) (getD (joined-rows (a .before .now) (a .second .0) (a .more)) (f .free .result .0) 0) (f .before .before .loop .early) (c .after .result)
+timed : (c : tie.After-after Inv-loop μ-loop) → let f = c .before .before .before .before .before in let a = f .before .before .before .before .before .args in
+    After (getD (a .start .now) (f .free .result .0) 0) (getD (joined-rows (a .before .now) (a .pending)) (f .free .result .0) 0) (f .before .before .loop .early) (c .after .result)
 timed c =
     let w = c .before .before in
-    rw (w .time-at .ensures .0, w .before .row-of .ensures) at (c .after .ensures)
+    rw (w .wide .ensures .0, w .before .before .row-of .ensures) at (c .after .ensures)
 
 cast-early : tie.Need-cast-early Inv-loop μ-loop
 cast-early c =
-    let f = c .before .before .before .before in
+    let f = c .before .before .before .before .before in
     let p = f .before .before in
-    let start = p .before .before in
+    let start = p .before .before .before in
     omega (arith, making-time (start .pre .1) (p .loop .inv) (f .free .ensures .1) (timed c))
 
 mul-early : tie.Need-mul-early Inv-loop μ-loop
@@ -74,15 +83,15 @@ loop-less c = search needs
 
 loop-again : tie.Need-loop-again Inv-loop μ-loop
 loop-again c =
-    let f = c .before .before .before .before .before in
+    let f = c .before .before .before .before .before .before in
     let p = f .before .before in
-    let start = p .before .before in
+    let start = p .before .before .before in
     making-next (start .pre .1) (p .loop .inv) (f .free .ensures .1) (timed (c .before)) (search needs) _ (c .without .ensures)
 
 returns : tie.Need-returns Inv-loop μ-loop
 returns c =
     let p = c .before in
-    let start = p .before .before in
+    let start = p .before .before .before in
     making-end (start .pre .1) (p .loop .inv) (search needs)
 
 pub earliest-spec : {M : Type 1} → statement M
@@ -95,7 +104,9 @@ earliest-spec =
     loop-holds
     free-requires
     row-of-requires
-    time-at-requires
+    mul-wide
+    shared-slice-read-wide
+    wide-requires
     after-requires
     cast-early
     mul-early

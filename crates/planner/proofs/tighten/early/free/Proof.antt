@@ -10,16 +10,16 @@ use Rattle.sets.specs.Sets.{has}
 use Rattle.planner.specs.Inner.Chains.{joined-rows}
 use Rattle.planner.specs.Inner.Early.{Free}
 use Rattle.sets.proofs.Bits.{apart-is, apart-has, has-some, rest-walk, rest-less, walk-split, walk-sub}
-use Rattle.planner.proofs.Join.{rows-at, rows-keep}
+use Rattle.planner.proofs.Pending.{rows-at, rows-keep}
 use borrow.Author.Needs.{needs}
 use Rattle.planner.proofs.tighten.early.free.Statement.{statement}
 use Rattle.planner.proofs.tighten.early.free.Tie as tie
 
 abbrev Inv-loop : tie.InvT-loop
-Inv-loop before second more todo rest₀ rest = ((j : ℕ) → T (has rest j) → T (has todo j)) × ((f : ℕ) × T (has rest f) × Free f (getD (joined-rows before (second .0) more) f 0) todo)
+Inv-loop before pending todo rest₀ rest = ((j : ℕ) → T (has rest j) → T (has todo j)) × ((f : ℕ) × T (has rest f) × Free f (getD (joined-rows before pending) f 0) todo)
 
 abbrev μ-loop : tie.MeasureT-loop
-μ-loop before second more todo rest₀ rest = count 64 (has rest)
+μ-loop before pending todo rest₀ rest = count 64 (has rest)
 
 loop-holds : tie.Need-loop-holds Inv-loop μ-loop
 loop-holds c = ((λ j t. t), (c .pre .1 .0, c .pre .1 .1 .member, c .pre .1 .1))
@@ -41,7 +41,7 @@ returns c =
     let f = c .before .before .before .before .first in
     let p = c .before .before .before .before .before in
     let a = p .before .args in
-    let read : c .before .joined .result ≡ getD (joined-rows (a .before .now) (a .second .0) (a .more)) (f .result .0) 0 = c .before .joined .ensures ∙ sym (rows-at _ _ _ _ (f .ensures .0)) in
+    let read : c .before .joined .result ≡ getD (joined-rows (a .before .now) (a .pending)) (f .result .0) 0 = c .before .joined .ensures ∙ sym (rows-at _ _ _ (f .ensures .0)) in
     (f .ensures .0, record { member = p .loop .inv .0 (f .result .0) (f .ensures .1); ready = apart-has _ _ (rw read at (c .if2 .taken)) })
 
 rest-requires : tie.Need-rest-requires Inv-loop μ-loop
@@ -56,14 +56,14 @@ loop-again : tie.Need-loop-again Inv-loop μ-loop
 loop-again c =
     let p = c .before .before .before .before in
     let a = p .before .args in
-    let rows = joined-rows (a .before .now) (a .second .0) (a .more) in
+    let rows = joined-rows (a .before .now) (a .pending) in
     let f = c .before .before .before .first in
     let w = rest-walk (p .loop .rest) (c .rest .result) (f .result .0) (f .ensures .3) (c .rest .ensures) in
     let g = p .loop .inv .1 in
     let x : Free (f .result .0) (getD rows (f .result .0) 0) (a .todo) → ⊥ = λ y.
     ⊎-elim
-    (λ v. v .2 .left (apart-is (v .1 .result) (a .todo) (p .before .fits .todo .fits) (λ j t. y .ready j (rw (v .1 .ensures ∙ sym (rows-at (a .before .now) (a .second .0) (a .more) (f .result .0) (f .ensures .0))) at t))))
-    (λ v. v .left (apart-is (getD (a .before .now) (f .result .0) 0) (a .todo) (p .before .fits .todo .fits) (λ j t. y .ready j (rows-keep (a .before .now) (a .second .0) (a .more) (f .result .0) j (f .ensures .0) t))))
+    (λ v. v .2 .left (apart-is (v .1 .result) (a .todo) (p .before .fits .todo .fits) (λ j t. y .ready j (rw (v .1 .ensures ∙ sym (rows-at (a .before .now) (a .pending) (f .result .0) (f .ensures .0))) at t))))
+    (λ v. v .left (apart-is (getD (a .before .now) (f .result .0) 0) (a .todo) (p .before .fits .todo .fits) (λ j t. y .ready j (rows-keep (a .before .now) (a .pending) (f .result .0) j (f .ensures .0) t))))
     (c .before .if1 .came) in (
       (λ j t. p .loop .inv .0 j (walk-sub (p .loop .rest) (c .rest .result) (f .result .0) w j t)),
       ⊎-elim (λ e. absurd (x (subst (λ (n : ℕ). Free n (getD rows n 0) (a .todo)) e (g .2)))) (λ t. (g .0, t, g .2)) (walk-split (p .loop .rest) (c .rest .result) (f .result .0) w (g .0) (g .1)),
