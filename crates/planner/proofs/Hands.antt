@@ -15,7 +15,7 @@ use Rattle.schedule.specs.Times.{Earliest, Latest}
 use Rattle.schedule.proofs.Tests.{le-or-lt}
 use Rattle.schedule.proofs.Early.{exists-earliest}
 use Rattle.schedule.proofs.Theorem.{row-iff-plan}
-use Rattle.book.specs.Told.{Book, part, held, jobs-in, row-in}
+use Rattle.book.specs.Told.{Book, cores, part, held, jobs-in, row-in}
 use Rattle.book.proofs.Parts.{part-length, part-in, held-late, with-latest}
 use Rattle.planner.specs.Inner.Tighten.{Tightenable, Tightens}
 use Rattle.refusal.specs.Table.{refused, passed}
@@ -79,16 +79,15 @@ module _ (starts deadlines before row due : List ℕ) (s : Settleable starts dea
     long = hd .same-length;
     starts = le-refl (length starts);
     early = λ i l. omega (arith, s .early i l);
-    late = λ i l. omega (arith, s .late i l, same-due i);
     closed = s .closed;
     loopless = s .loopless;
-    held = s .held;
+    inside = s .held;
   }
 
   alike : row-in due ≡ row-in deadlines
   alike = fun-ext same-due
 
-  module _ (times : List ℕ) (found : Bool) (t : Tightens (length starts) starts before due times found) where
+  module _ (times : List ℕ) (found : Bool) (t : Tightens cores (length starts) starts before due times found) where
     latest-lent : found ≡ true → (early : ℕ → ℕ) → Earliest (jobs-in (length starts) starts before) early → Latest 2 (jobs-in (length starts) starts before) early (row-in deadlines) (row-in times)
     latest-lent e = subst (λ (f : ℕ → ℕ). (early : ℕ → ℕ) → Earliest (jobs-in (length starts) starts before) early → Latest 2 (jobs-in (length starts) starts before) early f (row-in times)) alike (t .latest e)
 

@@ -85,8 +85,8 @@ rows-same rows l = sym (rows-are rows nothing rows l (λ y h. sym (joined-nothin
 pub nothing-ready : (size : ℕ) (start before row : List ℕ) (p : Pending) → p ≡ nothing → length before ≡ 64 → Tightenable size start before row → (p .job .0 < 64) × Tightenable size start (joined-rows before p) row
 nothing-ready size start before row p e l t = rw (e, rows-same before l) (omega arith, t)
 
-pub nothing-tight : (size : ℕ) (start before row next : List ℕ) (fits : Bool) (p : Pending) → p ≡ nothing → length before ≡ 64 → Tightens size start (joined-rows before p) row next fits → Tightens size start before row next fits
-nothing-tight size start before row next fits p e l t = rw (e, rows-same before l) at t
+pub nothing-tight : (m size : ℕ) (start before row next : List ℕ) (fits : Bool) (p : Pending) → p ≡ nothing → length before ≡ 64 → Tightens m size start (joined-rows before p) row next fits → Tightens m size start before row next fits
+nothing-tight m size start before row next fits p e l t = rw (e, rows-same before l) at t
 
 -- a and all that precedes a
 pub joined-links : (rows : List ℕ) (a : ℕ) (p : Pending) → length rows ≡ 64 → p .job .0 < 64 → ((x : ℕ) → has (p .more) x ≡ (has (getD rows a 0) x || eqb x a)) → Links a (p .job .0) rows (joined-rows rows p)

@@ -20,7 +20,7 @@ use Rattle.schedule.proofs.Chains.{reads-closed, reads-loopless, getD-put}
 use Rattle.schedule.proofs.Onward.{Onward, holds-planned, onward-job, onward-order, onward-deadline}
 use Rattle.schedule.proofs.Book.{holds-followed, holds-kept}
 use Rattle.sets.specs.Sets.{has}
-use Rattle.book.specs.Told.{Book, jobs-of, latest-of, row-in, Shaped, Limited, Told}
+use Rattle.book.specs.Told.{Book, cores, jobs-of, latest-of, row-in, Shaped, Limited, Told}
 use Rattle.refusal.specs.Table.{Table, refused, passed}
 use Rattle.planner.specs.Requests.{plan-check, Applied, answered, Turned, Grown}
 use Rattle.book.proofs.Parts.{with-latest}
@@ -57,10 +57,9 @@ grows-ready L grown g = record {
   long = g .shaped .latests;
   starts = omega (arith, g .shaped .few, g .shaped .starts);
   early = λ i l. omega (arith, g .onward .reads .start i l, g .limited .start i (omega (arith, g .onward .reads .size)));
-  late = λ i l. omega (arith, g .late i l);
   closed = reads-closed L (jobs-of grown) (g .onward .reads);
   loopless = reads-loopless L (jobs-of grown) (g .onward .reads) (g .onward .loopless);
-  held = g .shaped .before-rest;
+  inside = g .shaped .before-rest;
 }
 
 -- the row holds the latest times under the book's
@@ -85,7 +84,7 @@ tight-last L k grown told value row e g t = told-last L value told k (with-lates
   holds = g .onward .holds (λ i. getD row i 0) (t .latest (g .onward .early) (g .onward .earliest));
 })
 
-module _ (L : Listed) (k grown : Book) (value : ℕ) (row : List ℕ) (fits : Bool) (g : Grows L grown) (t : Tightens (grown .size) (grown .start) (grown .before) (grown .latest) row fits) where
+module _ (L : Listed) (k grown : Book) (value : ℕ) (row : List ℕ) (fits : Bool) (g : Grows L grown) (t : Tightens cores (grown .size) (grown .start) (grown .before) (grown .latest) row fits) where
   -- a row that the engine gave back is taken
   pub fits-last : (b : Book) (told : ℕ) → b ≡ with-latest grown row → told ≡ value → fits ≡ true → Last L value k (answered b 0 told)
   fits-last b told s e y = rw s (tight-last L k grown told value row e g (record { size = t .length; rest = λ i l. t .rest y i l ∙ g .shaped .latest-rest i l; latest = t .latest y }))

@@ -21,7 +21,7 @@ use Rattle.schedule.proofs.Counting.{count-lt, count-pos, count-find, count-bou
 use Rattle.schedule.proofs.Rows.{Put, put-cases, put-all, put-same}
 use Rattle.sets.specs.Sets.{has}
 use Rattle.book.specs.Told.{jobs-in, row-in}
-use Rattle.planner.specs.Inner.Early.{Free, After, Startable, Begins}
+use Rattle.planner.specs.Inner.Tighten.Early.{Unblocked, After, Startable, Begins}
 use Rattle.schedule.proofs.Tests.{test, le-by}
 use Rattle.schedule.proofs.Early.{raise, raise-earliest}
 use Rattle.sets.proofs.Bits.{walk-sub, walk-split, walk-one, has-some, count-cut}
@@ -92,9 +92,9 @@ module _ (J : Jobs) (early : ℕ → ℕ) (e : Earliest J early) where
       )
 
   -- among the jobs to do, the first of all waits for none
-  pub some-free : (todo : ℕ) → 0 < count (J .size) (has todo) →
+  pub some-unblocked : (todo : ℕ) → 0 < count (J .size) (has todo) →
       (i : ℕ) × (i < J .size) × T (has todo i) × ((a : ℕ) → a < J .size → T (J .before a i) → T (has todo a) → ⊥)
-  some-free todo h = go (least (J .size) (has todo) early)
+  some-unblocked todo h = go (least (J .size) (has todo) early)
     where
       go : Empty (J .size) (has todo) ⊎ Least (J .size) (has todo) early →
           (i : ℕ) × (i < J .size) × T (has todo i) × ((a : ℕ) → a < J .size → T (J .before a i) → T (has todo a) → ⊥)
@@ -123,7 +123,7 @@ earliest-of size start before = raise (jobs-in size start before) size
 pub record Making (size : ℕ) (start before early order : List ℕ) (todo k : ℕ) : Type 0 where
   pub in-row : k ≤ size
   pub lengths : (length early ≡ 64) × (length order ≡ 64)
-  pub held : (j : ℕ) → T (has todo j) → j < size
+  pub inside : (j : ℕ) → T (has todo j) → j < size
   pub left : count 64 (has todo) + k ≡ size
   pub done : (i : ℕ) → i < size → T (has todo i) ⊎ (getD early i 0 ≡ earliest-of size start before i)
   pub jobs : (l : ℕ) → l < k → getD order l 0 < size
@@ -142,30 +142,30 @@ module _ {size : ℕ} {start before : List ℕ} (s : Startable size start before
   making-start early order todo le lo w = record {
     in-row = omega arith;
     lengths = (le, lo);
-    held = λ j t. ltb→lt j size (rw (w j) at t);
+    inside = λ j t. ltb→lt j size (rw (w j) at t);
     left = omega (arith, count-cut size 64 (has todo) (λ j. true) (s .few) (λ j l. w j ∙ lt-ltb j size l) (λ j g. w j ∙ le-ltb j size g), count-all size);
     done = λ i l. inl (subst T (sym (w i ∙ lt-ltb i size l)) tt);
     jobs = λ l x. absurd (omega arith);
   }
 
   module _ {early order : List ℕ} {todo k : ℕ} (q : Making size start before early order todo k) where
-    pub making-free : k < size → (i : ℕ) × Free i (getD before i 0) todo
-    making-free l =
+    pub making-unblocked : k < size → (i : ℕ) × Unblocked i (getD before i 0) todo
+    making-unblocked l =
         let n : count 64 (has todo) ≡ count size (has todo) = count-cut size 64 (has todo) (has todo) (s .few) (λ j x. refl)
-        (λ j g. ⊎-elim (λ t. absurd (omega (arith, q .held j t))) (λ f. none (has todo j) f) (test (has todo j))) in
-        let x = some-free J E e todo (omega (arith, q .left)) in
-        (x .0, record { member = x .2; ready = λ a t u. x .3 a (s .held a (x .0) t .0) t u })
+        (λ j g. ⊎-elim (λ t. absurd (omega (arith, q .inside j t))) (λ f. none (has todo j) f) (test (has todo j))) in
+        let x = some-unblocked J E e todo (omega (arith, q .left)) in
+        (x .0, record { member = x .2; ready = λ a t u. x .3 a (s .inside a (x .0) t .0) t u })
       where
         none : (b : Bool) → (T b → ⊥) → b ≡ false
         none true f = absurd (f tt)
         none false f = refl
 
-    module _ {i : ℕ} (f : Free i (getD before i 0) todo) where
+    module _ {i : ℕ} (f : Unblocked i (getD before i 0) todo) where
       ready : (a : ℕ) → T (has (getD before i 0) a) → (a < size) × (getD early a 0 ≡ E a)
-      ready a t = let l = s .held a i t .0 in (l, ⊎-elim (λ u. absurd (f .ready a t u)) (λ x. x) (q .done a l))
+      ready a t = let l = s .inside a i t .0 in (l, ⊎-elim (λ u. absurd (f .ready a t u)) (λ x. x) (q .done a l))
 
       li : i < size
-      li = q .held i (f .member)
+      li = q .inside i (f .member)
 
       module _ {time : ℕ} (a : After (getD start i 0) (getD before i 0) early time) where
         timed : time ≡ E i
@@ -181,7 +181,7 @@ module _ {size : ℕ} {start before : List ℕ} (s : Startable size start before
         making-next l more w = record {
           in-row = omega arith;
           lengths = (simp length-set (q .lengths .0), simp length-set (q .lengths .1));
-          held = λ j t. q .held j (walk-sub todo more i w j t);
+          inside = λ j t. q .inside j (walk-sub todo more i w j t);
           left = omega (arith, q .left, walk-one todo more i w (omega (arith, li, s .few)) (f .member));
           done = λ j lj. ⊎-elim (λ t. ⊎-elim (λ x. inr (rw x here)) (λ x. inl x) (walk-split todo more i w j t))
               (λ x. ⊎-elim (λ t. ⊎-elim (λ y. inr (rw y here)) (λ y. inl y) (walk-split todo more i w j t)) (λ g. inr (getD-set-other early i j time 0 (λ y. g (rw y (f .member))) ∙ x)) (test (has todo j))) (q .done j lj);

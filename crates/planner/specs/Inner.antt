@@ -1,9 +1,6 @@
 -- What the planner's private functions promise to each other. Nobody has to believe these: the public promises are proved from them.
 pub mod Chains
 pub mod Tighten
-pub mod Tables
-pub mod Early
-pub mod Lower
 pub mod Rows
 pub mod Requests
 pub mod List

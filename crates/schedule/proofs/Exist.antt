@@ -9,7 +9,7 @@ use native.Mathlib.Omega.{arith}
 use Rattle.schedule.specs.Row.{put}
 use Rattle.schedule.specs.Jobs.{Jobs}
 use Rattle.schedule.specs.Plan.{Valid, Meets, HasPlan}
-use Rattle.schedule.specs.Times.{Earliest, Consistent, Breach, left, Beneath, HasRow, Latest, Full, Open}
+use Rattle.schedule.specs.Times.{Earliest, Consistent, Breach, left, HasRow, Latest, Full, Open}
 use Rattle.schedule.specs.Theory.Sum.{sum}
 use Rattle.schedule.specs.Theory.Bound.{Bound}
 use Rattle.schedule.proofs.Tests.{le-by}

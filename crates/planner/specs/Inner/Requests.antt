@@ -5,7 +5,7 @@ use mathlib.Core.List.{List}
 use mathlib.Core.Path.{_≡_}
 use Prim.Native.Nat.{ℕ, _≤_, _<_}
 use lib.ListN.{length, set}
-use Rattle.book.specs.Told.{part}
+use Rattle.book.specs.Told.{cores, part}
 use Rattle.planner.specs.declared.chains.Pending.{Pending}
 use Rattle.planner.specs.Inner.Chains.{joined-rows}
 use Rattle.planner.specs.Inner.Tighten.{Tightenable, Tightens}
@@ -21,6 +21,6 @@ pub record Settleable (size : ℕ) (times before : List ℕ) (pending : Pending)
 -- tightened, and kept where some plan meets them
 pub record Settles (size : ℕ) (times before : List ℕ) (pending : Pending) (job deadline : ℕ) (after : List ℕ) (fits : Bool) : Type 0 where
   pub row : List ℕ
-  pub tight : Tightens size (part 1 times) (joined-rows before pending) (set (part 65 times) job deadline) row fits
+  pub tight : Tightens cores size (part 1 times) (joined-rows before pending) (set (part 65 times) job deadline) row fits
   pub kept : fits ≡ true → Keeps row times after
   pub left : fits ≡ false → after ≡ times

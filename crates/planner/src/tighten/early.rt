@@ -8,7 +8,7 @@ ghost use mathlib.Core.Path.{_≡_};
 ghost use Prim.Native.Nat.{ℕ, _<_};
 ghost use lib.ListN.{length, getD};
 ghost use Rattle.planner.specs.Inner.Chains.{joined-rows};
-ghost use Rattle.planner.specs.Inner.Early.{Free, After, Startable, Begins};
+ghost use Rattle.planner.specs.Inner.Tighten.Early.{Unblocked, After, Startable, Begins};
 
 // The earliest times, and the order in which jobs are reached: predecessors first.
 pub fn earliest<'a>(
@@ -25,7 +25,7 @@ pub fn earliest<'a>(
     let mut todo = sets::below(size);
     let mut k: usize = 0;
     while k < size {
-        let job = free(before, pending, todo);
+        let job = unblocked(before, pending, todo);
         let i = job.0;
         let set = chains::row_of(before, job, pending);
         let time = after(wide(start[i]), set, early);
@@ -37,9 +37,9 @@ pub fn earliest<'a>(
 }
 
 // The first job to do that waits for none to do.
-fn free(before: &[u64; 64], pending: Pending, todo: u64) -> JobIndex
-    requires { ⌜ (pending .job .0 < 64) × ((i : ℕ) × Free i (getD (joined-rows (now before) pending) i 0) todo) ⌝ }
-    ensures { λ r. ⌜ (r .0 < 64) × Free (r .0) (getD (joined-rows (now (before .entry)) pending) (r .0) 0) todo ⌝ }
+fn unblocked(before: &[u64; 64], pending: Pending, todo: u64) -> JobIndex
+    requires { ⌜ (pending .job .0 < 64) × ((i : ℕ) × Unblocked i (getD (joined-rows (now before) pending) i 0) todo) ⌝ }
+    ensures { λ r. ⌜ (r .0 < 64) × Unblocked (r .0) (getD (joined-rows (now (before .entry)) pending) (r .0) 0) todo ⌝ }
 {
     let mut rest = todo;
     loop {

@@ -37,7 +37,7 @@ returns c =
     let due = t .before .before .before .before in
     let s = due .before .before .before .before .before .pre in
     settles-fits _ _ _ _ _ s (due .hand-over .ensures) _ _
-    (nothing-tight _ _ _ _ _ _ _ (t .before .before .none .ensures) (s .rows) (t .tighten .ensures)) _ (c .before .before .before .before .before .if1 .taken) (c .before .before .hand-over2 .ensures)
+    (nothing-tight _ _ _ _ _ _ _ _ (t .before .before .none .ensures) (s .rows) (t .tighten .ensures)) _ (c .before .before .before .before .before .if1 .taken) (c .before .before .hand-over2 .ensures)
 
 returns-2 : tie.Need-returns-2
 returns-2 c =
@@ -46,7 +46,7 @@ returns-2 c =
     let s = due .before .before .before .before .before .pre in (
       omega arith,
       settles-none _ _ _ _ _ s (due .hand-over .ensures) _ _
-          (nothing-tight _ _ _ _ _ _ _ (t .before .before .none .ensures) (s .rows) (t .tighten .ensures)) (c .if1 .left),
+          (nothing-tight _ _ _ _ _ _ _ _ (t .before .before .none .ensures) (s .rows) (t .tighten .ensures)) (c .if1 .left),
     )
 
 pub settle-spec : {M : Type 1} → statement M

@@ -48,11 +48,13 @@ loop-again c =
     let f = c .before .before .before .before .first in
     let r = rest-walk (p .loop .rest) (c .rest .result) (f .result .0) (f .ensures .3) (c .rest .ensures) in
     let t = c .before .before .wide .ensures .0 in
+    let small = c .before .before .wide .ensures .1 in
     ⊎-elim
-    (λ w. rw (w .3, w .4) (gathered-more (p .loop .inv) _ _ r (f .ensures .1) _ _ (omega (arith, t, w .0 .taken)) (w .1 .ensures) (omega (arith, w .2 .taken)) (omega (arith, t)) (w .0 .taken)))
+    (λ w. rw (w .3, w .4) (gathered-more (p .loop .inv) _ _ r (f .ensures .1) (omega (arith, t, small)) _ _ (omega (arith, t, w .0 .taken)) (w .1 .ensures) (omega (arith, w .2 .taken)) (omega (arith, t)) (w .0 .taken)))
     (⊎-elim
-    (λ w. rw (w .3, w .4) (gathered-more (p .loop .inv) _ _ r (f .ensures .1) _ _ (omega (arith, t, w .0 .taken)) (w .1 .ensures) (omega arith) (omega (arith, t, w .2 .left)) (gathered-low (p .loop .inv) (f .result .0) (omega (arith, t, w .0 .taken)))))
-    (λ w. rw (w .1, w .2) (gathered-same (p .loop .inv) _ _ r (f .ensures .1) (omega (arith, t, w .0 .left)))))
+    (λ w. rw (w .3, w .4) (gathered-more (p .loop .inv) _ _ r (f .ensures .1) (omega (arith, t, small)) _ _ (omega (arith, t, w .0 .taken)) (w .1 .ensures) (omega arith)
+    (omega (arith, t, w .2 .left)) (gathered-low (p .loop .inv) (f .result .0) (omega (arith, t, w .0 .taken)))))
+    (λ w. rw (w .1, w .2) (gathered-same (p .loop .inv) _ _ r (f .ensures .1) (omega (arith, t, small)) (omega (arith, t, w .0 .left)))))
     (c .before .if1 .came)
 
 returns : tie.Need-returns Inv-loop μ-loop

@@ -8,11 +8,12 @@ use borrow.Author.Needs.{needs}
 use lib.Dec.{T}
 use lib.ListN.{length, length-set, getD}
 use Rattle.schedule.specs.Count.{count}
+use Rattle.book.specs.Told.{cores}
 use Rattle.sets.specs.Sets.{has}
 use Rattle.schedule.specs.Jobs.{Jobs}
 use Rattle.book.specs.Told.{row-in}
-use Rattle.planner.specs.Inner.Tables.{Known}
-use Rattle.planner.specs.Inner.Lower.{DueBy, Ruled}
+use Rattle.planner.specs.Inner.Tighten.Tables.{Known}
+use Rattle.planner.specs.Inner.Tighten.Rule.{DueBy, Ruled}
 use Rattle.sets.proofs.Bits.{rest-walk, rest-less, walk-sub}
 use Rattle.planner.proofs.TightenSink.{Lowering, lowering-start, lowering-moved, lowering-kept, lowering-moves, due-job, stored-low, sunk-none}
 use Rattle.planner.proofs.tighten.lower_at.Statement.{statement}
@@ -23,7 +24,7 @@ Inv-loop d due followers times late rank row₀ moved₀ rest₀ row moved rest 
     (length row ≡ 64)
     × ((j : ℕ) → T (has rest j) → T (has due j))
     × ((j : ℕ) → T (has due j) → getD row j 0 ≤ d)
-    × ((J : Jobs) (early : ℕ → ℕ) → Known J early followers times late rank → DueBy (J .size) (row-in row₀) d due → Lowering J early row₀ row d due moved rest)
+    × ((J : Jobs) (early : ℕ → ℕ) → Known J early followers times late rank → DueBy (J .size) (row-in row₀) d due → Lowering cores J early row₀ row d due moved rest)
 
 abbrev μ-loop : tie.MeasureT-loop
 μ-loop d due followers times late rank row₀ moved₀ rest₀ row moved rest = count 64 (has rest)
@@ -37,7 +38,7 @@ ruled : (c : tie.After-lowered Inv-loop μ-loop) (J : Jobs) (early : ℕ → ℕ
     let p = c .before .before .before .before .before .before .before in
     let a = p .before .args in
     Known J early (a .followers .now) (a .times .now) (a .late .now) (a .rank .now) → DueBy (J .size) (row-in (a .row .now)) (a .d) (a .due) →
-    Ruled J early (row-in (p .loop .row)) i (a .d) (c .lowered .result)
+    Ruled cores J early (row-in (p .loop .row)) i (a .d) (c .lowered .result)
 ruled c J early k s =
     let p = c .before .before .before .before .before .before .before in
     let q = p .loop .inv .3 J early k s in
@@ -47,7 +48,7 @@ ruled c J early k s =
     (record { levels = k .levels; job = l; begins = k .ranks i l .1; holds = sym (c .before .before .before .wide .ensures .0); soon = q .soon; follow = λ j. k .follow i j l }) (k .earliest)
 
 loop-holds : tie.Need-loop-holds Inv-loop μ-loop
-loop-holds c = (c .pre .1, (λ j t. t), (λ j t. c .pre .2 j t .1), (λ J early k s. lowering-start J early (c .args .row .now) (c .args .d) (c .args .due) s))
+loop-holds c = (c .pre .1, (λ j t. t), (λ j t. c .pre .2 j t .1), (λ J early k s. lowering-start cores J early (c .args .row .now) (c .args .d) (c .args .due) s))
 
 first-requires : tie.Need-first-requires Inv-loop μ-loop
 first-requires c κs = search needs

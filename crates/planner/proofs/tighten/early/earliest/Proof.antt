@@ -4,8 +4,8 @@ use Prim.Native.Nat.{_-_}
 use native.Mathlib.Omega.{arith}
 use lib.ListN.{getD}
 use Rattle.planner.specs.Inner.Chains.{joined-rows}
-use Rattle.planner.specs.Inner.Early.{After}
-use Rattle.planner.proofs.TightenEarly.{Making, making-start, making-free, making-time, making-next, making-end}
+use Rattle.planner.specs.Inner.Tighten.Early.{After}
+use Rattle.planner.proofs.TightenEarly.{Making, making-start, making-unblocked, making-time, making-next, making-end}
 use borrow.Author.Needs.{needs}
 use Rattle.planner.proofs.tighten.early.earliest.Statement.{statement}
 use Rattle.planner.proofs.tighten.early.earliest.Tie as tie
@@ -22,11 +22,11 @@ below-requires c κs = c .before .pre .1 .few
 loop-holds : tie.Need-loop-holds Inv-loop μ-loop
 loop-holds c = making-start (c .before .before .pre .1) _ _ _ (c .before .before .pre .2) (c .before .before .pre .3) (c .below .ensures)
 
-free-requires : tie.Need-free-requires Inv-loop μ-loop
-free-requires c κs =
+unblocked-requires : tie.Need-unblocked-requires Inv-loop μ-loop
+unblocked-requires c κs =
     let p = c .before in
     let start = p .before .before .before in
-    (start .pre .0, making-free (start .pre .1) (p .loop .inv) (search needs))
+    (start .pre .0, making-unblocked (start .pre .1) (p .loop .inv) (search needs))
 
 row-of-requires : tie.Need-row-of-requires Inv-loop μ-loop
 row-of-requires c κs = search needs
@@ -38,7 +38,7 @@ shared-slice-read-wide : tie.Need-shared-slice-read-wide Inv-loop μ-loop
 shared-slice-read-wide c =
     let f = c .before .before in
     let p = f .before .before in
-    omega (arith, p .loop .inv .held _ (f .free .ensures .1 .member), p .before .before .before .pre .1 .long)
+    omega (arith, p .loop .inv .inside _ (f .unblocked .ensures .1 .member), p .before .before .before .pre .1 .long)
 
 wide-requires : tie.Need-wide-requires Inv-loop μ-loop
 wide-requires c κs = search needs
@@ -48,7 +48,7 @@ after-requires c κs = search needs
 
 -- what is read is the start and the joined row of the job
 timed : (c : tie.After-after Inv-loop μ-loop) → let f = c .before .before .before .before .before in let a = f .before .before .before .before .before .args in
-    After (getD (a .start .now) (f .free .result .0) 0) (getD (joined-rows (a .before .now) (a .pending)) (f .free .result .0) 0) (f .before .before .loop .early) (c .after .result)
+    After (getD (a .start .now) (f .unblocked .result .0) 0) (getD (joined-rows (a .before .now) (a .pending)) (f .unblocked .result .0) 0) (f .before .before .loop .early) (c .after .result)
 timed c =
     let w = c .before .before in
     rw (w .wide .ensures .0, w .before .before .row-of .ensures) at (c .after .ensures)
@@ -58,7 +58,7 @@ cast-early c =
     let f = c .before .before .before .before .before in
     let p = f .before .before in
     let start = p .before .before .before in
-    omega (arith, making-time (start .pre .1) (p .loop .inv) (f .free .ensures .1) (timed c))
+    omega (arith, making-time (start .pre .1) (p .loop .inv) (f .unblocked .ensures .1) (timed c))
 
 mul-early : tie.Need-mul-early Inv-loop μ-loop
 mul-early c = search needs
@@ -86,7 +86,7 @@ loop-again c =
     let f = c .before .before .before .before .before .before in
     let p = f .before .before in
     let start = p .before .before .before in
-    making-next (start .pre .1) (p .loop .inv) (f .free .ensures .1) (timed (c .before)) (search needs) _ (c .without .ensures)
+    making-next (start .pre .1) (p .loop .inv) (f .unblocked .ensures .1) (timed (c .before)) (search needs) _ (c .without .ensures)
 
 returns : tie.Need-returns Inv-loop μ-loop
 returns c =
@@ -102,7 +102,7 @@ earliest-spec =
     μ-loop
     below-requires
     loop-holds
-    free-requires
+    unblocked-requires
     row-of-requires
     mul-wide
     shared-slice-read-wide

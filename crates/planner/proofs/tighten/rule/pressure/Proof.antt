@@ -6,15 +6,16 @@ use native.Mathlib.Omega.{arith}
 use lib.ListN.{getD}
 use Rattle.schedule.specs.Jobs.{Jobs}
 use Rattle.schedule.proofs.Counting.{count-bound}
+use Rattle.book.specs.Told.{cores}
 use Rattle.sets.specs.Walk.{pressed}
-use Rattle.planner.specs.Inner.Lower.{At}
+use Rattle.planner.specs.Inner.Tighten.Rule.{At}
 use Rattle.planner.proofs.TightenPress.{Passed, passed-start, passed-kept, passed-counted, passed-found, passed-none, passed-own, passed-over}
 use borrow.Author.Needs.{needs}
 use Rattle.planner.proofs.tighten.rule.pressure.Statement.{statement}
 use Rattle.planner.proofs.tighten.rule.pressure.Tie as tie
 
 abbrev Inv-loop : tie.InvT-loop
-Inv-loop job held d due followers from times late least most₀ k₀ most k = (k < 65) × ((J : Jobs) (early row : ℕ → ℕ) (x : At J early row (job .0) held d due followers from times late) → Passed x k most)
+Inv-loop job held d due followers from times late least most₀ k₀ most k = (k < 65) × ((J : Jobs) (early row : ℕ → ℕ) (x : At J early row (job .0) held d due followers from times late) → Passed cores x k most)
 
 abbrev μ-loop : tie.MeasureT-loop
 μ-loop job held d due followers from times late least most₀ k₀ most k = 65 - k
@@ -28,7 +29,7 @@ mul-least c = search needs
 loop-holds : tie.Need-loop-holds Inv-loop μ-loop
 loop-holds c =
     let s = c .pre in
-    (s .2, (λ J early row x. passed-start x (s .2) (s .3) (s .4) (s .5)))
+    (s .2, (λ J early row x. passed-start cores x (s .2) (s .3) (s .4) (s .5)))
 
 time-at-requires : tie.Need-time-at-requires Inv-loop μ-loop
 time-at-requires c κs = search needs
@@ -53,7 +54,8 @@ returns c =
     let here = c .before .before .before .before .before .time-at .ensures .0 in
     let n = c .before .pressing-at in (
       omega (arith, n .ensures, count-bound 64 (pressed (a .due) (a .followers) (getD (a .late .now) (p .loop .k) 0) (a .job .0))),
-      (λ J early row x. passed-found x (s .2) (s .3) (s .4) (s .5) (p .loop .inv .1 J early row x) (omega (arith, here, c .before .before .before .before .if1 .taken)) _ (n .ensures) (omega (arith, c .before .before .before .time-at2 .ensures .0, c .if3 .taken))),
+      (λ J early row x. passed-found cores x (s .2) (s .3) (s .4) (s .5) (p .loop .inv .1 J early row x)
+          (omega (arith, here, c .before .before .before .before .if1 .taken)) _ (n .ensures) (omega (arith, c .before .before .before .time-at2 .ensures .0, c .if3 .taken))),
     )
 
 returns-2 : tie.Need-returns-2 Inv-loop μ-loop
@@ -62,7 +64,7 @@ returns-2 c =
     let s = p .before .pre in
     let here = c .before .before .before .before .before .before .time-at .ensures .0 in
     let n = c .before .before .pressing-at in
-    (omega arith, (λ J early row x. passed-none x (s .2) (s .3) (s .4) (s .5) (p .loop .inv .1 J early row x) (omega (arith, here, c .before .before .before .before .before .if1 .taken)) _ (n .ensures) (c .if4 .taken)))
+    (omega arith, (λ J early row x. passed-none cores x (s .2) (s .3) (s .4) (s .5) (p .loop .inv .1 J early row x) (omega (arith, here, c .before .before .before .before .before .if1 .taken)) _ (n .ensures) (c .if4 .taken)))
 
 add-k : tie.Need-add-k Inv-loop μ-loop
 add-k c = search needs
@@ -79,8 +81,8 @@ loop-again c =
     let h : getD (a .times .now) (p .loop .k) 0 < a .held = omega (arith, c .before .before .before .time-at .ensures .0, c .before .before .if1 .taken) in (
       omega (arith, s .0 (p .loop .k) (p .loop .inv .0) (omega (arith, s .4, s .5)) .0),
       (λ J early row x. ⊎-elim
-          (λ w. rw (w .4) (passed-counted x (s .2) (s .3) (s .4) (s .5) (p .loop .inv .1 J early row x) h _ (w .1 .ensures) (omega (arith, room, w .2 .left))))
-          (λ w. rw (w .1) (passed-kept x (s .2) (s .3) (s .4) (s .5) (p .loop .inv .1 J early row x) h (omega (arith, room, w .0 .left))))
+          (λ w. rw (w .4) (passed-counted cores x (s .2) (s .3) (s .4) (s .5) (p .loop .inv .1 J early row x) h _ (w .1 .ensures) (omega (arith, room, w .2 .left))))
+          (λ w. rw (w .1) (passed-kept cores x (s .2) (s .3) (s .4) (s .5) (p .loop .inv .1 J early row x) h (omega (arith, room, w .0 .left))))
           (c .if2 .came)),
     )
 
@@ -94,15 +96,18 @@ returns-3 c =
     let s = p .before .pre in
     let n = c .before .pressing-at2 in (
       omega (arith, n .ensures, count-bound 64 (pressed (a .due) (a .followers) (getD (a .late .now) (p .loop .k) 0) (a .job .0))),
-      (λ J early row x. passed-own x (s .2) (s .3) (s .4) (s .5) (p .loop .inv .1 J early row x) (omega (arith, c .before .before .before .time-at .ensures .0, c .before .before .if1 .left)) _ (n .ensures) (c .if5 .taken)),
+      (λ J early row x. passed-own cores x (s .2) (s .3) (s .4) (s .5) (p .loop .inv .1 J early row x) (omega (arith, c .before .before .before .time-at .ensures .0, c .before .before .if1 .left)) _ (n .ensures) (c .if5 .taken)),
     )
 
 returns-4 : tie.Need-returns-4 Inv-loop μ-loop
 returns-4 c =
     let p = c .before .before .before .before in
     let s = p .before .pre in
-    let n = c .before .pressing-at2 in
-    (omega arith, (λ J early row x. passed-over x (s .2) (s .3) (s .4) (s .5) (p .loop .inv .1 J early row x) (omega (arith, c .before .before .before .time-at .ensures .0, c .before .before .if1 .left)) _ (n .ensures) (c .if5 .left)))
+    let n = c .before .pressing-at2 in (
+      omega arith,
+      (λ J early row x. passed-over cores x (s .2) (s .3) (s .4) (s .5) (p .loop .inv .1 J early row x)
+          (omega (arith, c .before .before .before .time-at .ensures .0, c .before .before .if1 .left)) _ (n .ensures) (c .if5 .left)),
+    )
 
 pub pressure-spec : {M : Type 1} → statement M
 pressure-spec =

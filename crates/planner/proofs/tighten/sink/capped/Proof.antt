@@ -1,4 +1,4 @@
--- `planner::tighten::follow::capped` meets its contract.
+-- `planner::tighten::sink::capped` meets its contract.
 -- Assumes nothing.
 use mathlib.Core.Logic.{⊎-elim}
 use mathlib.Core.Path.{_≡_, sym, subst}
@@ -7,26 +7,27 @@ use native.Mathlib.Omega.{arith}
 use borrow.Author.Needs.{needs}
 use lib.Dec.{T}
 use Rattle.schedule.specs.Count.{count}
+use Rattle.book.specs.Told.{cores}
 use Rattle.sets.specs.Sets.{has}
 use Rattle.schedule.specs.Jobs.{Jobs}
 use Rattle.schedule.specs.Times.{Raised}
 use Rattle.book.specs.Told.{row-in}
-use Rattle.planner.specs.Inner.Lower.{Eased}
+use Rattle.planner.specs.Inner.Tighten.Sink.{Eased}
 use Rattle.sets.proofs.Bits.{rest-walk, rest-less, walk-sub}
 use Rattle.planner.proofs.TightenLower.{eased-same, eased-follow}
-use Rattle.planner.proofs.tighten.follow.capped.Statement.{statement}
-use Rattle.planner.proofs.tighten.follow.capped.Tie as tie
+use Rattle.planner.proofs.tighten.sink.capped.Statement.{statement}
+use Rattle.planner.proofs.tighten.sink.capped.Tie as tie
 
 abbrev Inv-loop : tie.InvT-loop
 Inv-loop held set row time₀ rest₀ time rest =
     ((a : ℕ) → T (has rest a) → T (has set a))
-    × ((J : Jobs) (early : ℕ → ℕ) (i : ℕ) → i < J .size → row-in row i ≡ held → ((j : ℕ) → T (has set j) → (j < J .size) × T (J .before i j)) → Raised J early → Eased J early (row-in row) i time)
+    × ((J : Jobs) (early : ℕ → ℕ) (i : ℕ) → i < J .size → row-in row i ≡ held → ((j : ℕ) → T (has set j) → (j < J .size) × T (J .before i j)) → Raised J early → Eased cores J early (row-in row) i time)
 
 abbrev μ-loop : tie.MeasureT-loop
 μ-loop held set row time₀ rest₀ time rest = count 64 (has rest)
 
 loop-holds : tie.Need-loop-holds Inv-loop μ-loop
-loop-holds c = ((λ a t. t), (λ J early i l e f r. rw (sym e) (eased-same J early (row-in (c .args .row .now)) l)))
+loop-holds c = ((λ a t. t), (λ J early i l e f r. rw (sym e) (eased-same cores (omega arith) J early (row-in (c .args .row .now)) l)))
 
 first-requires : tie.Need-first-requires Inv-loop μ-loop
 first-requires c κs = search needs
@@ -44,7 +45,7 @@ returns c J early i l e f r =
     let j = f (k .result .0) (p .loop .inv .0 (k .result .0) (k .ensures .1)) in
     let row = row-in (p .before .args .row .now) in
     let z : row (k .result .0) - 1 ≡ 0 = omega arith in
-    subst (λ (n : ℕ). Eased J early row i n) z (eased-follow J early row l r (k .result .0) (j .0) (j .1) (p .loop .time) (p .loop .inv .1 J early i l e f r) (c .before .if1 .taken))
+    subst (λ (n : ℕ). Eased cores J early row i n) z (eased-follow cores (omega arith) J early row l r (k .result .0) (j .0) (j .1) (p .loop .time) (p .loop .inv .1 J early i l e f r) (c .before .if1 .taken))
 
 sub-time : tie.Need-sub-time Inv-loop μ-loop
 sub-time c = search needs
@@ -66,7 +67,7 @@ loop-again c =
       (λ J early i l e f r.
           let j = f (k .result .0) (p .loop .inv .0 (k .result .0) (k .ensures .1)) in
           ⊎-elim
-          (λ w. rw (w .2) (eased-follow J early row l r (k .result .0) (j .0) (j .1) (p .loop .time) (p .loop .inv .1 J early i l e f r) (w .0 .taken)))
+          (λ w. rw (w .2) (eased-follow cores (omega arith) J early row l r (k .result .0) (j .0) (j .1) (p .loop .time) (p .loop .inv .1 J early i l e f r) (w .0 .taken)))
           (λ w. rw (w .1) (p .loop .inv .1 J early i l e f r))
           (c .before .if1 .came)),
     )

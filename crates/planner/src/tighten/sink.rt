@@ -7,12 +7,13 @@ ghost use lib.ListN.{length, getD};
 ghost use Rattle.schedule.specs.Jobs.{Jobs};
 ghost use Rattle.schedule.specs.Times.{Raised};
 ghost use Rattle.sets.specs.Sets.{has};
+ghost use Rattle.book.specs.Told.{cores};
 ghost use Rattle.book.specs.Told.{row-in};
-ghost use Rattle.planner.specs.Inner.Tables.{Follows};
-ghost use Rattle.planner.specs.Inner.Lower.{Eased, Fits};
+ghost use Rattle.planner.specs.Inner.Tighten.Tables.{Follows};
+ghost use Rattle.planner.specs.Inner.Tighten.Sink.{Eased, Fits};
 
 // Last jobs first, so that one walk serves whole chains; false where a job has no time left.
-pub fn follow<'a>(
+pub fn sink<'a>(
     size: usize,
     changed: u64,
     order: &'a [u8; 64],
@@ -20,7 +21,7 @@ pub fn follow<'a>(
     row: &mut [u16; 64],
 ) -> bool
     requires { ⌜ (size ≤ 64) × (length (now row) ≡ 64) × ((k : ℕ) → k < size → getD (now order) k 0 < size) ⌝ }
-    ensures { λ r. ⌜ (length (now (row .exit)) ≡ 64) × ((J : Jobs) (early : ℕ → ℕ) → J .size ≡ size → Follows J (now (followers .entry)) → Raised J early → Fits J early (now (row .entry)) (now (row .exit)) r) ⌝ }
+    ensures { λ r. ⌜ (length (now (row .exit)) ≡ 64) × ((J : Jobs) (early : ℕ → ℕ) → J .size ≡ size → Follows J (now (followers .entry)) → Raised J early → Fits cores J early (now (row .entry)) (now (row .exit)) r) ⌝ }
 {
     let mut moved = changed;
     let mut k = size;
@@ -42,7 +43,7 @@ pub fn follow<'a>(
 
 // The time held, or one below the least of the set's.
 fn capped(held: u16, set: u64, row: &[u16; 64]) -> u16
-    ensures { λ r. ⌜ ((J : Jobs) (early : ℕ → ℕ) (i : ℕ) → i < J .size → row-in (now (row .entry)) i ≡ held → ((j : ℕ) → T (has set j) → (j < J .size) × T (J .before i j)) → Raised J early → Eased J early (row-in (now (row .entry))) i r) ⌝ }
+    ensures { λ r. ⌜ ((J : Jobs) (early : ℕ → ℕ) (i : ℕ) → i < J .size → row-in (now (row .entry)) i ≡ held → ((j : ℕ) → T (has set j) → (j < J .size) × T (J .before i j)) → Raised J early → Eased cores J early (row-in (now (row .entry))) i r) ⌝ }
 {
     let mut time = held;
     let mut rest = set;

@@ -1,4 +1,4 @@
--- `planner::tighten::early::free` meets its contract: some free job is not passed yet.
+-- `planner::tighten::early::unblocked` meets its contract: some unblocked job is not passed yet.
 -- Assumes nothing.
 use mathlib.Core.Logic.{⊎-elim}
 use mathlib.Core.Path.{_≡_, sym, subst, _∙_}
@@ -8,15 +8,15 @@ use lib.ListN.{getD}
 use Rattle.schedule.specs.Count.{count}
 use Rattle.sets.specs.Sets.{has}
 use Rattle.planner.specs.Inner.Chains.{joined-rows}
-use Rattle.planner.specs.Inner.Early.{Free}
+use Rattle.planner.specs.Inner.Tighten.Early.{Unblocked}
 use Rattle.sets.proofs.Bits.{apart-is, apart-has, has-some, rest-walk, rest-less, walk-split, walk-sub}
 use Rattle.planner.proofs.Pending.{rows-at, rows-keep}
 use borrow.Author.Needs.{needs}
-use Rattle.planner.proofs.tighten.early.free.Statement.{statement}
-use Rattle.planner.proofs.tighten.early.free.Tie as tie
+use Rattle.planner.proofs.tighten.early.unblocked.Statement.{statement}
+use Rattle.planner.proofs.tighten.early.unblocked.Tie as tie
 
 abbrev Inv-loop : tie.InvT-loop
-Inv-loop before pending todo rest₀ rest = ((j : ℕ) → T (has rest j) → T (has todo j)) × ((f : ℕ) × T (has rest f) × Free f (getD (joined-rows before pending) f 0) todo)
+Inv-loop before pending todo rest₀ rest = ((j : ℕ) → T (has rest j) → T (has todo j)) × ((f : ℕ) × T (has rest f) × Unblocked f (getD (joined-rows before pending) f 0) todo)
 
 abbrev μ-loop : tie.MeasureT-loop
 μ-loop before pending todo rest₀ rest = count 64 (has rest)
@@ -60,17 +60,17 @@ loop-again c =
     let f = c .before .before .before .first in
     let w = rest-walk (p .loop .rest) (c .rest .result) (f .result .0) (f .ensures .3) (c .rest .ensures) in
     let g = p .loop .inv .1 in
-    let x : Free (f .result .0) (getD rows (f .result .0) 0) (a .todo) → ⊥ = λ y.
+    let x : Unblocked (f .result .0) (getD rows (f .result .0) 0) (a .todo) → ⊥ = λ y.
     ⊎-elim
     (λ v. v .2 .left (apart-is (v .1 .result) (a .todo) (p .before .fits .todo .fits) (λ j t. y .ready j (rw (v .1 .ensures ∙ sym (rows-at (a .before .now) (a .pending) (f .result .0) (f .ensures .0))) at t))))
     (λ v. v .left (apart-is (getD (a .before .now) (f .result .0) 0) (a .todo) (p .before .fits .todo .fits) (λ j t. y .ready j (rows-keep (a .before .now) (a .pending) (f .result .0) j (f .ensures .0) t))))
     (c .before .if1 .came) in (
       (λ j t. p .loop .inv .0 j (walk-sub (p .loop .rest) (c .rest .result) (f .result .0) w j t)),
-      ⊎-elim (λ e. absurd (x (subst (λ (n : ℕ). Free n (getD rows n 0) (a .todo)) e (g .2)))) (λ t. (g .0, t, g .2)) (walk-split (p .loop .rest) (c .rest .result) (f .result .0) w (g .0) (g .1)),
+      ⊎-elim (λ e. absurd (x (subst (λ (n : ℕ). Unblocked n (getD rows n 0) (a .todo)) e (g .2)))) (λ t. (g .0, t, g .2)) (walk-split (p .loop .rest) (c .rest .result) (f .result .0) w (g .0) (g .1)),
     )
 
-pub free-spec : {M : Type 1} → statement M
-free-spec =
+pub unblocked-spec : {M : Type 1} → statement M
+unblocked-spec =
     tie.close
     (tie.spec
     Inv-loop

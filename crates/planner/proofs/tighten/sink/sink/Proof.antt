@@ -1,4 +1,4 @@
--- `planner::tighten::follow::follow` meets its contract.
+-- `planner::tighten::sink::sink` meets its contract.
 -- Assumes nothing.
 use mathlib.Core.Path.{_≡_, refl, sym, subst}
 use Prim.Native.Nat.{ℕ, _-_, _≤_, _<_}
@@ -8,15 +8,16 @@ use lib.Dec.{T}
 use lib.ListN.{length, length-set, getD, set}
 use Rattle.schedule.specs.Jobs.{Jobs}
 use Rattle.schedule.specs.Times.{Raised}
+use Rattle.book.specs.Told.{cores}
 use Rattle.book.specs.Told.{row-in}
-use Rattle.planner.specs.Inner.Tables.{Follows}
-use Rattle.planner.specs.Inner.Lower.{Eased, Sunk}
+use Rattle.planner.specs.Inner.Tighten.Tables.{Follows}
+use Rattle.planner.specs.Inner.Tighten.Sink.{Eased, Sunk}
 use Rattle.planner.proofs.TightenSink.{sunk-same, sunk-put, sunk-none, followed}
-use Rattle.planner.proofs.tighten.follow.follow.Statement.{statement}
-use Rattle.planner.proofs.tighten.follow.follow.Tie as tie
+use Rattle.planner.proofs.tighten.sink.sink.Statement.{statement}
+use Rattle.planner.proofs.tighten.sink.sink.Tie as tie
 
 abbrev Inv-loop : tie.InvT-loop
-Inv-loop size changed order followers row₀ moved₀ k₀ row moved k = (k ≤ size) × (length row ≡ 64) × ((J : Jobs) (early : ℕ → ℕ) → J .size ≡ size → Follows J followers → Raised J early → Sunk J early row₀ row)
+Inv-loop size changed order followers row₀ moved₀ k₀ row moved k = (k ≤ size) × (length row ≡ 64) × ((J : Jobs) (early : ℕ → ℕ) → J .size ≡ size → Follows J followers → Raised J early → Sunk cores J early row₀ row)
 
 abbrev μ-loop : tie.MeasureT-loop
 μ-loop size changed order followers row₀ moved₀ k₀ row moved k = k
@@ -30,7 +31,7 @@ eased : (c : tie.After-capped Inv-loop μ-loop) (J : Jobs) (early : ℕ → ℕ)
     let p = c .before .before .before .before .before .before in
     let a = p .before .args in
     let i = getD (a .order .now) (p .loop .k - 1) 0 in
-    J .size ≡ a .size → Follows J (a .followers .now) → Raised J early → (i < J .size) × Eased J early (row-in (p .loop .row)) i (c .capped .result)
+    J .size ≡ a .size → Follows J (a .followers .now) → Raised J early → (i < J .size) × Eased cores J early (row-in (p .loop .row)) i (c .capped .result)
 eased c J early e f r =
     let p = c .before .before .before .before .before .before in
     let a = p .before .args in
@@ -43,7 +44,7 @@ kept : (c : tie.After-capped Inv-loop μ-loop) →
     let a = p .before .args in
     let next = set (p .loop .row) (getD (a .order .now) (p .loop .k - 1) 0) (c .capped .result) in
     (p .loop .k - 1 ≤ a .size) × (length next ≡ 64)
-    × ((J : Jobs) (early : ℕ → ℕ) → J .size ≡ a .size → Follows J (a .followers .now) → Raised J early → Sunk J early (a .row .now) next)
+    × ((J : Jobs) (early : ℕ → ℕ) → J .size ≡ a .size → Follows J (a .followers .now) → Raised J early → Sunk cores J early (a .row .now) next)
 kept c =
     let p = c .before .before .before .before .before .before in (
       omega (arith, p .loop .inv .0),
@@ -54,7 +55,7 @@ kept c =
     )
 
 loop-holds : tie.Need-loop-holds Inv-loop μ-loop
-loop-holds c = (search needs, c .pre .1, (λ J early e f r. sunk-same J early (c .args .row .now)))
+loop-holds c = (search needs, c .pre .1, (λ J early e f r. sunk-same cores J early (c .args .row .now)))
 
 sub-k : tie.Need-sub-k Inv-loop μ-loop
 sub-k c = search needs
@@ -118,8 +119,8 @@ returns-2 c =
     let p = c .before in
     (p .loop .inv .1, (λ J early e f r. record { sunk = λ b. p .loop .inv .2 J early e f r; none = λ b. absurd (subst T b tt) }))
 
-pub follow-spec : {M : Type 1} → statement M
-follow-spec =
+pub sink-spec : {M : Type 1} → statement M
+sink-spec =
     tie.close
     (tie.spec
     Inv-loop

@@ -12,7 +12,7 @@ use Rattle.sets.specs.Sets.{has}
 use Rattle.book.specs.Told.{jobs-in, row-in}
 
 -- job i is to do, and none that precedes it is
-pub record Free (i before todo : ℕ) : Type 0 where
+pub record Unblocked (i before todo : ℕ) : Type 0 where
   pub member : T (has todo i)
   pub ready : (a : ℕ) → T (has before a) → T (has todo a) → ⊥
 
@@ -29,7 +29,7 @@ pub record Startable (size : ℕ) (start before : List ℕ) : Type 0 where
   pub starts : (i : ℕ) → i < size → getD start i 0 ≤ 65470
   pub closed : Closed (jobs-in size start before)
   pub loopless : Loopless (jobs-in size start before)
-  pub held : (a b : ℕ) → T (has (getD before b 0) a) → (a < size) × (b < size)
+  pub inside : (a b : ℕ) → T (has (getD before b 0) a) → (a < size) × (b < size)
 
 -- the earliest times, and an order of jobs
 pub record Begins (size : ℕ) (start before early order : List ℕ) : Type 0 where

@@ -1,0 +1,2 @@
+// The number of cores.
+pub const CORES: usize = 2;
