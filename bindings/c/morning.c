@@ -1,5 +1,5 @@
 /* A morning on the buoy: two readings, then the report on both, and a request that comes too late. */
-#include "../planner.h"
+#include "planner.h"
 #include <stdio.h>
 
 int main(void) {

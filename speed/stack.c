@@ -1,5 +1,5 @@
 /* The deepest stack of each exported function: it runs on a painted stack, and what lost its paint was used. */
-#include "../planner.h"
+#include "../bindings/c/planner.h"
 #include <stdio.h>
 #include <string.h>
 #include <ucontext.h>
