@@ -2,6 +2,7 @@
 use std::{env, path::Path};
 
 fn main() {
+    assert_eq!(env::var("CARGO_CFG_TARGET_ARCH").unwrap(), "x86_64", "libfirmware.a is for x86-64");
     let here = env::var("CARGO_MANIFEST_DIR").unwrap();
     let made = Path::new(&here).join("../../target/staticlib");
     let folder = env::var("PLANNER_LIB").unwrap_or(made.display().to_string());

@@ -13,41 +13,84 @@
 //! let book = planner::Book::open();
 //! book.place(planner::SlotTime(0));
 //! ```
+//!
+//! The crate uses `core` alone: it allocates nothing, and goes where there is no operating system. The library that it
+//! links is for x86-64.
+#![no_std]
+#![deny(missing_docs)]
 pub mod raw;
 
-use std::fmt;
+use core::fmt;
+
+/// Bytes that are enough for the plan of any book.
+pub const PLAN_BYTES: usize = 8192;
+/// Bytes that are enough for the file of any book.
+pub const BOOK_BYTES: usize = 12480;
+/// The longest job file that is read.
+pub const FILE_BYTES: usize = 24576;
+/// In a plan: no job on this core.
+pub const IDLE: u8 = 255;
 
 /// A job's number, as the book answered it.
 #[derive(Clone, Copy, Debug, PartialEq, Eq, PartialOrd, Ord, Hash)]
 pub struct JobIndex(pub u16);
 
+/// A slot, counted from 0.
 #[derive(Clone, Copy, Debug, PartialEq, Eq, PartialOrd, Ord, Hash)]
 pub struct SlotTime(pub usize);
 
+/// A core: 0 or 1.
 #[derive(Clone, Copy, Debug, PartialEq, Eq, PartialOrd, Ord, Hash)]
 pub struct CoreIndex(pub usize);
 
 /// A number of refusal, and what is returned with it. Nothing was changed.
 #[derive(Clone, Copy, Debug, PartialEq, Eq)]
 pub struct Refusal {
+    /// 1 to 11.
     pub number: u8,
+    /// What is returned with it: a place in a list, bytes needed, an offset, or 0.
     pub value: usize,
 }
 
+/// The class of a number of refusal.
 #[derive(Clone, Copy, Debug, PartialEq, Eq)]
 pub enum Class {
+    /// Any other number.
     None = 0,
+    /// 1, 8, 9.
     Room = 1,
+    /// 2, 3, 5, 6.
     Request = 2,
+    /// 4.
     Plan = 3,
+    /// 7, 10, 11.
     Form = 4,
 }
 
+/// A request on a book.
 #[derive(Clone, Copy, Debug, PartialEq, Eq)]
 pub enum Request {
-    Job { start: u16, deadline: u16 },
-    Before { first: JobIndex, second: JobIndex },
-    Earlier { job: JobIndex, deadline: u16 },
+    /// A new job.
+    Job {
+        /// The slot before which it may not begin: 0 to 4,095.
+        start: u16,
+        /// The time by which it must end: 1 to 4,096, above the start.
+        deadline: u16,
+    },
+    /// An order of two jobs.
+    Before {
+        /// The job that ends first.
+        first: JobIndex,
+        /// The job that waits for it.
+        second: JobIndex,
+    },
+    /// An earlier deadline.
+    Earlier {
+        /// The job.
+        job: JobIndex,
+        /// The time by which it must now end.
+        deadline: u16,
+    },
 }
 
 /// What one record of a job file led to.
@@ -55,16 +98,22 @@ pub enum Request {
 pub enum Event {
     /// The request was answered, and the offset moved on.
     Request(Result<usize, Refusal>),
+    /// The offset is the file's length.
     End,
     /// The file cannot be read further; the offset stays.
     Stopped(Refusal),
 }
 
+/// The place of a job in the plan.
 #[derive(Clone, Copy, Debug, PartialEq, Eq)]
 pub struct Place {
+    /// Its slot.
     pub slot: SlotTime,
+    /// Its core.
     pub core: CoreIndex,
+    /// Its slot + 1.
     pub end: usize,
+    /// Its latest time minus its end.
     pub spare: usize,
 }
 
@@ -105,19 +154,22 @@ impl Book {
         answer(number, value)
     }
 
+    /// A new job answers its number. Refusals in this order: 1, 2, 3, 4.
     pub fn add_job(&mut self, start: u16, deadline: u16) -> Result<JobIndex, Refusal> {
         self.apply(Request::Job { start, deadline }).map(|number| JobIndex(number as u16))
     }
 
+    /// An order that already follows changes nothing. 5, 6, 4.
     pub fn add_order(&mut self, first: JobIndex, second: JobIndex) -> Result<(), Refusal> {
         self.apply(Request::Before { first, second }).map(|_| ())
     }
 
+    /// A deadline not below the latest time held changes nothing. 5, 2, 3, 4.
     pub fn draw_in(&mut self, job: JobIndex, deadline: u16) -> Result<(), Refusal> {
         self.apply(Request::Earlier { job, deadline }).map(|_| ())
     }
 
-    /// Two bytes a slot, core 0 first, 255 for an idle core; answers the finishing time.
+    /// Two bytes a slot, core 0 first, [`IDLE`] for an idle core; answers the finishing time. Bytes beyond the plan stay. 8.
     pub fn plan(&self, out: &mut [u8]) -> Result<usize, Refusal> {
         let mut value = 0;
         let (bytes, length) = (out.as_mut_ptr(), out.len());
@@ -127,6 +179,7 @@ impl Book {
         answer(number, value)
     }
 
+    /// The place of a job. 5.
     pub fn place(&self, job: JobIndex) -> Result<Place, Refusal> {
         let (mut slot, mut core, mut end, mut spare) = (0, 0, 0, 0);
         let number = unsafe {
@@ -145,7 +198,7 @@ impl Book {
         answer(number, 0).map(|_| Place { slot: SlotTime(slot), core: CoreIndex(core), end, spare })
     }
 
-    /// One record of a job file at an offset.
+    /// One record of a job file at an offset, which moves by six unless it is the end or a stop (9, 11, 10).
     pub fn read(&mut self, file: &[u8], at: &mut usize) -> Event {
         let Book { size, start, latest, before } = self;
         let mut value = 0;
@@ -158,7 +211,7 @@ impl Book {
         }
     }
 
-    /// The book as a job file; answers the number of bytes written.
+    /// The book as a job file; answers the number of bytes written. Bytes beyond them stay. 8.
     pub fn write(&self, out: &mut [u8]) -> Result<usize, Refusal> {
         let mut value = 0;
         let (bytes, length) = (out.as_mut_ptr(), out.len());
@@ -168,14 +221,17 @@ impl Book {
         answer(number, value)
     }
 
+    /// How many jobs are held.
     pub fn size(&self) -> usize {
         self.size
     }
 
+    /// The start of a job held.
     pub fn start(&self, job: JobIndex) -> Option<u16> {
         self.start[..self.size].get(job.0 as usize).copied()
     }
 
+    /// The latest time of a job held.
     pub fn latest(&self, job: JobIndex) -> Option<u16> {
         self.latest[..self.size].get(job.0 as usize).copied()
     }
@@ -187,7 +243,8 @@ impl Book {
     }
 }
 
-/// The whole list at once: pairs "first, second" laid flat; `latest` receives the latest times.
+/// The whole list at once: pairs "first, second" laid flat; `latest` receives the latest times, and its entries beyond
+/// the number of jobs stay. 7, 1; then 2, 3 job by job; then 5 for all pairs; then 6; then 4.
 pub fn judge(starts: &[u16], deadlines: &[u16], pairs: &[u16], latest: &mut [u16]) -> Result<(), Refusal> {
     let mut value = 0;
     let number = unsafe {
@@ -214,6 +271,7 @@ fn answer(number: u8, value: usize) -> Result<usize, Refusal> {
 }
 
 impl Refusal {
+    /// The class of the number.
     pub fn class(&self) -> Class {
         match unsafe { raw::firmware_class(self.number) } {
             1 => Class::Room,
@@ -245,4 +303,4 @@ impl fmt::Display for Refusal {
     }
 }
 
-impl std::error::Error for Refusal {}
+impl core::error::Error for Refusal {}

@@ -1,5 +1,5 @@
 //! A morning on the buoy: two readings, then the report on both, and a request that comes too late.
-use planner::{Book, JobIndex, Refusal};
+use planner::{BOOK_BYTES, Book, JobIndex, PLAN_BYTES, Refusal};
 
 fn main() -> Result<(), Refusal> {
     let mut book = Book::open();
@@ -14,7 +14,7 @@ fn main() -> Result<(), Refusal> {
         println!("one more job: refused {}, class {}", refusal.number, refusal.class() as u8);
     }
 
-    let mut plan = [0; 8192];
+    let mut plan = [0; PLAN_BYTES];
     let finish = book.plan(&mut plan)?;
     for (slot, row) in plan[..2 * finish].chunks(2).enumerate() {
         println!("slot {slot}: {row:?}");
@@ -24,7 +24,7 @@ fn main() -> Result<(), Refusal> {
         println!("job {} on core {} ends at {}, spare {}", job.0, place.core.0, place.end, place.spare);
     }
 
-    let mut file = [0; 24576];
+    let mut file = [0; BOOK_BYTES];
     let length = book.write(&mut file)?;
     println!("{length} bytes of job file");
     Ok(())

@@ -1,10 +1,10 @@
 //! The proved planner and the same engine in plain Rust, side by side in one run.
 //!
-//!     bench times [ROUNDS]       the table of times: median, and the ratio
-//!     bench cases                the names of the cases, one a line
-//!     bench count CASE SIDE N    one case N times, for a counter of instructions
-//!     bench file KIND            the job file of levels or of the chain
-//!     bench listing              the plain listing of the job file at standard input
+//!     speed times [ROUNDS]       the table of times: median, and the ratio
+//!     speed cases                the names of the cases, one a line
+//!     speed count CASE SIDE N    one case N times, for a counter of instructions
+//!     speed file KIND            the job file of levels or of the chain
+//!     speed listing              the plain listing of the job file at standard input
 mod engine;
 mod listing;
 mod lists;
@@ -43,7 +43,7 @@ fn main() {
             std::io::stdin().read_to_end(&mut file).unwrap();
             print!("{}", listing::listing(&file));
         }
-        _ => eprintln!("bench times [ROUNDS] | cases | count CASE SIDE CALLS | file KIND | listing"),
+        _ => eprintln!("speed times [ROUNDS] | cases | count CASE SIDE CALLS | file KIND | listing"),
     }
 }
 

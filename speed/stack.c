@@ -1,5 +1,5 @@
 /* The deepest stack of each exported function: it runs on a painted stack, and what lost its paint was used. */
-#include "../planner.h"
+#include "../bindings/c/planner.h"
 #include <stdio.h>
 #include <string.h>
 #include <ucontext.h>
@@ -21,7 +21,7 @@ static void order(void) { number = planner_add_order(&held, 60, 61, &value); }
 static void drawn(void) { number = planner_draw_in(&held, 63, 20, &value); }
 static void judged(void) { number = planner_judge(starts, 64, deadlines, 64, pairs, 126, latest, 64, &value); }
 static void planned(void) { number = planner_plan(&held, plan, sizeof plan, &value); }
-static void placed(void) { number = planner_place(&held, 63, &(struct planner_place){0}); }
+static void placed(void) { number = planner_place(&held, 63, &(struct planner_seat){0}); }
 static void read_order(void) { number = planner_read(&held, file, length, &at, &value); }
 static void written(void) { number = planner_write(&held, file, sizeof file, &value); }
 static void classed(void) { value = planner_class(4); }

@@ -1,12 +1,13 @@
-/* The buoy planner: jobs of one slot for two equal cores, with starts, deadlines and orders.
+/* The buoy planner: jobs of one slot for two equal cores, with starts, deadlines and orders. For C99 and C++11 on.
  *
- * Link libfirmware.a, which `rt staticlib firmware` writes to target/staticlib/. Nothing here allocates, waits or
- * keeps anything: all memory is lent by the caller for the time of the call.
+ * Link libfirmware.a, which `rt staticlib firmware` writes to target/staticlib/, for x86-64 Linux. Nothing here
+ * allocates, waits or keeps anything: all memory is lent by the caller for the time of the call.
  *
  * A book is opened by planner_open and changed by the functions here alone; its fields are there to be read.
  * A book that was filled in any other way, and places lent to one call that overlap, are outside every promise.
+ * A row or bytes of length 0 may be lent as NULL; nothing else may be NULL.
  *
- * Each function answers 0 where it accepts, else the number of the refusal, and *value is what goes with it:
+ * A call that can refuse answers 0 where it accepts, else the number of the refusal, and *value is what goes with it:
  *
  *    1  64 jobs held already, or more in a list                               0
  *    2  start above 4,095 or deadline above 4,096                             the job's place in a list, else 0
@@ -21,7 +22,7 @@
  *   11  offset past the end, or 1 to 5 bytes left                             the offset
  *
  * A refusal leaves the book and every lent row, byte and number as it was, but for *value and, where planner_read
- * read a request that is then refused, for the offset.
+ * read a request that is then refused, for the offset. planner_open and planner_class refuse nothing.
  */
 #ifndef PLANNER_H
 #define PLANNER_H
@@ -29,7 +30,23 @@
 #include <stddef.h>
 #include <stdint.h>
 
-enum { PLANNER_JOBS = 64, PLANNER_IDLE = 255, PLANNER_END = 255, PLANNER_PLAN_BYTES = 8192, PLANNER_FILE_BYTES = 24576 };
+#define PLANNER_VERSION 10000 /* 1.0.0: 10,000 times the first number, 100 times the second, and the third */
+
+#ifdef __cplusplus
+extern "C" {
+#endif
+
+enum {
+    PLANNER_JOBS = 64,
+    PLANNER_IDLE = 255,         /* in a plan: no job on this core */
+    PLANNER_END = 255,          /* answered by planner_read at the end of the file; no number of refusal */
+    PLANNER_PLAN_BYTES = 8192,  /* enough for the plan of any book */
+    PLANNER_BOOK_BYTES = 12480, /* enough for the file of any book */
+    PLANNER_FILE_BYTES = 24576  /* the longest file that is read */
+};
+
+/* what planner_class answers */
+enum { PLANNER_NONE = 0, PLANNER_ROOM = 1, PLANNER_REQUEST = 2, PLANNER_PLAN = 3, PLANNER_FORM = 4 };
 
 struct planner_book {
     size_t size;         /* jobs held, numbered from 0 */
@@ -38,7 +55,8 @@ struct planner_book {
     uint64_t before[64]; /* by job: bit a is 1 where job a precedes it */
 };
 
-struct planner_place {
+/* the place of a job in the plan: end is slot + 1, and spare its latest time minus its end */
+struct planner_seat {
     size_t slot, core, end, spare;
 };
 
@@ -54,7 +72,7 @@ uint8_t firmware_read(size_t *, uint16_t *, uint16_t *, uint64_t *, const uint8_
 uint8_t firmware_write(size_t, const uint16_t *, const uint16_t *, const uint64_t *, uint8_t *, size_t, size_t *);
 uint8_t firmware_class(uint8_t);
 
-/* An empty book, whatever the memory held. */
+/* An empty book, whatever the memory held. It answers nothing. */
 static inline void planner_open(struct planner_book *book) {
     firmware_open(&book->size, book->start, book->latest, book->before);
 }
@@ -79,35 +97,44 @@ static inline uint8_t planner_draw_in(struct planner_book *book, uint16_t job, u
 static inline uint8_t planner_judge(const uint16_t *starts, size_t starts_length, const uint16_t *deadlines,
                                     size_t deadlines_length, const uint16_t *pairs, size_t pairs_length,
                                     uint16_t *latest, size_t latest_length, size_t *value) {
-    return firmware_judge(starts, starts_length, deadlines, deadlines_length, pairs, pairs_length, latest,
-                          latest_length, value);
+    uint16_t none = 0, nowhere = 0;
+    return firmware_judge(starts ? starts : &none, starts_length, deadlines ? deadlines : &none, deadlines_length,
+                          pairs ? pairs : &none, pairs_length, latest ? latest : &nowhere, latest_length, value);
 }
 
 /* The plan: two bytes a slot, core 0 first, PLANNER_IDLE for an idle core; *value is the finishing time in slots.
  * Bytes beyond the plan stay; PLANNER_PLAN_BYTES are always enough. 8. */
 static inline uint8_t planner_plan(const struct planner_book *book, uint8_t *out, size_t length, size_t *value) {
-    return firmware_plan(book->size, book->start, book->latest, book->before, out, length, value);
+    uint8_t nowhere = 0;
+    return firmware_plan(book->size, book->start, book->latest, book->before, out ? out : &nowhere, length, value);
 }
 
-/* The place of a job in the plan: slot, core, end (slot + 1) and spare (latest time minus end). 5. */
-static inline uint8_t planner_place(const struct planner_book *book, uint16_t job, struct planner_place *place) {
-    return firmware_place(book->size, book->start, book->latest, book->before, job, &place->slot, &place->core,
-                          &place->end, &place->spare);
+/* The place of a job in the plan, to *seat. There is no value: the one refusal, 5, goes with 0, and leaves *seat. */
+static inline uint8_t planner_place(const struct planner_book *book, uint16_t job, struct planner_seat *seat) {
+    return firmware_place(book->size, book->start, book->latest, book->before, job, &seat->slot, &seat->core,
+                          &seat->end, &seat->spare);
 }
 
 /* One record of a job file at offset *at. PLANNER_END where the offset is the length (*value is 0). 9, 11 and 10 stop
- * and leave the offset; after any other answer, of the request that was read, it is six further. */
+ * and leave the offset; any other answer, and *value, are those of the request that was read, and *at is six further. */
 static inline uint8_t planner_read(struct planner_book *book, const uint8_t *file, size_t length, size_t *at,
                                    size_t *value) {
-    return firmware_read(&book->size, book->start, book->latest, book->before, file, length, at, value);
+    uint8_t none = 0;
+    return firmware_read(&book->size, book->start, book->latest, book->before, file ? file : &none, length, at, value);
 }
 
-/* The book as a job file; *value is the number of bytes written. Bytes beyond them stay; 12,480 are always enough. 8. */
+/* The book as a job file; *value is the number of bytes written. Bytes beyond them stay; PLANNER_BOOK_BYTES are always
+ * enough. 8. */
 static inline uint8_t planner_write(const struct planner_book *book, uint8_t *out, size_t length, size_t *value) {
-    return firmware_write(book->size, book->start, book->latest, book->before, out, length, value);
+    uint8_t nowhere = 0;
+    return firmware_write(book->size, book->start, book->latest, book->before, out ? out : &nowhere, length, value);
 }
 
-/* The class of a number of refusal: 0 none, 1 room, 2 request, 3 plan, 4 form. */
+/* The class of a number of refusal: PLANNER_NONE (0, and any number that is none), PLANNER_ROOM, .. */
 static inline uint8_t planner_class(uint8_t number) { return firmware_class(number); }
+
+#ifdef __cplusplus
+}
+#endif
 
 #endif
