@@ -1,9 +1,9 @@
 -- `records::record_at` meets its contract, check by check.
 -- Assumes nothing.
-use mathlib.Core.Logic.{inl, inr}
+use mathlib.Core.Logic.{inl}
 use mathlib.Core.Path.{refl}
 use native.Mathlib.Omega.{arith}
-use Rattle.refusal.specs.Table.{refused, passed}
+use Rattle.refusal.specs.Table.{refused}
 use Rattle.refusal.proofs.Table.{then-table}
 use borrow.Author.Needs.{needs}
 use Rattle.records.proofs.record_at.Statement.{statement}
