@@ -1,14 +1,17 @@
 -- The record at an offset (01, Job file).
 -- Assumes nothing.
+use mathlib.Core.Bool.{cond}
 use mathlib.Core.List.{List}
 use mathlib.Core.Logic.{_⊎_}
 use mathlib.Core.Path.{_≡_}
 use Prim.Native.Nat.{ℕ, _+_, _<_}
+use lib.Dec.{eqb}
 use lib.ListN.{length}
 use Rattle.refusal.specs.Table.{Checks, check, _then_, Table}
 use Rattle.records.specs.declared.Found.{Found}
 use Rattle.records.specs.declared.Found.the-variants as found
 use Rattle.records.specs.declared.Record.{Record}
+use Rattle.records.specs.declared.Record.the-variants.{Job, Order, Deadline}
 use Rattle.records.specs.Record.{JB, OR, TG, word-at, Stands}
 
 -- the number and the value of every case, or the record found (01, Code places: "a definition gives this paper's number and values for every case of the enum")
@@ -29,6 +32,13 @@ Shows file at r = Says r (λ number value. ⊥) (Stands file at)
 -- a mark of 01 stands at the offset
 abbrev pub Marked : List ℕ → ℕ → Type 0
 Marked file at = (word-at file at ≡ JB) ⊎ (word-at file at ≡ OR) ⊎ (word-at file at ≡ TG)
+
+-- the record that a mark and two fields make; where the mark is unknown, 10 with a value
+abbrev pub record-named : ℕ → ℕ → ℕ → ℕ → Found
+record-named mark first second value =
+    cond (eqb mark JB) (found.Record (Job first second))
+    (cond (eqb mark OR) (found.Record (Order first second))
+    (cond (eqb mark TG) (found.Record (Deadline first second)) (found.Stopped 10 value)))
 
 -- "mark unknown"
 abbrev pub mark-check : List ℕ → ℕ → Checks

@@ -10,7 +10,7 @@ ghost use lib.ListN.{length};
 ghost use lib.Seq.{sets};
 ghost use Rattle.refusal.specs.Table.{Table};
 ghost use Rattle.records.specs.Record.{record-of, length-of};
-ghost use Rattle.records.specs.Find.{Finds, Stops, Shows, mark-check};
+ghost use Rattle.records.specs.Find.{Finds, Stops, Shows, mark-check, record-named};
 ghost use Rattle.records.specs.Store.{Stores};
 
 // `JB`, `OR` and `TG`, as 16-bit numbers.
@@ -75,11 +75,18 @@ fn marked_at(file: &[u8], at: usize) -> Found
     let mark = word_at(file, at);
     let first = word_at(file, at + 2);
     let second = word_at(file, at + 4);
+    named(mark, first, second, at)
+}
+
+// The record of a mark and two fields; where the mark is unknown, 10 with the value given.
+pub fn named(mark: u16, first: u16, second: u16, value: usize) -> Found
+    ensures { λ r. ⌜ r ≡ record-named mark first second value ⌝ }
+{
     match mark {
         JB => Found::Record(Record::Job(first, second)),
         OR => Found::Record(Record::Order(first, second)),
         TG => Found::Record(Record::Deadline(first, second)),
-        _ => Found::Stopped(10, at),
+        _ => Found::Stopped(10, value),
     }
 }
 
