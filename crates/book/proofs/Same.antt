@@ -3,11 +3,9 @@
 use mathlib.Core.Logic.{⊎-elim}
 use mathlib.Core.List.{List}
 use mathlib.Core.Path.{_≡_, sym, _∙_}
-use Prim.Native.Nat.{ℕ, zero, suc, _+_, _^_, _≤_, _<_}
-use native.Mathlib.Nat.{pow-suc}
+use Prim.Native.Nat.{ℕ, _≤_, _<_}
 use native.Mathlib.Omega.{arith}
 use lib.ListN.{length, getD}
-use lib.Pow.{pow-mono}
 use lib.Seq.{ext-getD}
 use Rattle.schedule.specs.Listed.{Listed}
 use Rattle.schedule.proofs.Tests.{le-or-lt, same-test}
@@ -15,27 +13,12 @@ use Rattle.schedule.proofs.Same.{reads-one, holds-one}
 use Rattle.book.specs.Told.{Book}
 use Rattle.sets.specs.Sets.{has}
 use Rattle.book.specs.Told.{jobs-of, latest-of, Told}
-use Rattle.sets.proofs.Bits.{has-same}
+use Rattle.sets.proofs.Bits.{digits-same}
 
 -- rows that agree below n and are 0 from there on
 row-same : (n : ℕ) (x y : List ℕ) → length x ≡ 64 → length y ≡ 64 → ((i : ℕ) → i < n → getD x i 0 ≡ getD y i 0) →
     ((i : ℕ) → n ≤ i → getD x i 0 ≡ 0) → ((i : ℕ) → n ≤ i → getD y i 0 ≡ 0) → x ≡ y
 row-same n x y lx ly h zx zy = ext-getD 0 x y (lx ∙ sym ly) (λ i l. ⊎-elim (λ le. zx i le ∙ sym (zy i le)) (λ lt. h i lt) (le-or-lt n i))
-
--- a number is below its power of two
-pub below-pow : (n : ℕ) → n < 2 ^ n
-below-pow zero = omega arith
-below-pow (suc n) = rw pow-suc (omega (arith, below-pow n))
-
--- sets with the same members are the same number
-pub digits-same : (x y : ℕ) → ((j : ℕ) → has x j ≡ has y j) → x ≡ y
-digits-same x y h = has-same (x + y) x y (low x y) (high y x) (λ j l. h j)
-  where
-    low : (x y : ℕ) → x < 2 ^ (x + y)
-    low x y = omega (arith, below-pow x, pow-mono {i = x} {j = x + y} (omega arith))
-
-    high : (x y : ℕ) → x < 2 ^ (y + x)
-    high x y = omega (arith, below-pow x, pow-mono {i = x} {j = y + x} (omega arith))
 
 module _ (L : Listed) (b k : Book) (s : Told b L) (t : Told k L) where
   size-same : b .size ≡ k .size

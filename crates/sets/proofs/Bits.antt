@@ -1,7 +1,7 @@
 -- The laws of sets that are numbers: what digit each operation gives, the count of ones, and that digits settle the number.
 -- Assumes nothing.
 use Prim.Native.Nat.{ℕ, zero, suc, _+_, _-_, _*_, _/_, _%_, _^_, _≤_, _<_}
-use native.Mathlib.Nat.{sub-zero, mod-lt, mod-eq-of-lt, div-eq-of-lt, div-one, zero-div, one-mul, mul-mod-left, pow-suc, lt-of-lt-of-le, mod-one}
+use native.Mathlib.Nat.{le-antisymm, sub-zero, mod-lt, mod-eq-of-lt, div-eq-of-lt, div-one, zero-div, one-mul, mul-mod-left, pow-suc, lt-of-lt-of-le, mod-one}
 use native.Mathlib.Decide.{decLt}
 use native.Mathlib.Numerals.{one-add}
 use native.Mathlib.Omega.{arith}
@@ -11,13 +11,12 @@ use mathlib.Core.Path.{_≡_, refl, sym, ap, ap₂, _∙_, subst}
 use borrow.Author.Tests.{lt-ltb, le-ltb, eq-eqb, ne-eqb, eqb-true}
 use lib.Dec.{T, T-not, not-T, eqb→eq, eqb-refl, eqb, ltb, lit<, eqb·suc-zero, eqb·zero-suc, eqb·suc-suc}
 use lib.Bits.{bitAnd, bitOr, and-le-r, and-shr, or-shr, and-mod, or-mod}
-use lib.Count.{ones, ones-cat, trailingZeros, under}
+use lib.Count.{ones, ones-cat, trailingZeros, trailing-of-zero, under}
 use lib.Pow.{pow-pos, pow-lt, pow-mono, mod-pow-add, shr-shr, shl-exact}
 use Rattle.schedule.specs.Count.{one, count}
-use Rattle.schedule.proofs.Tests.{test, and-pair, and-fst, and-snd}
+use Rattle.schedule.proofs.Tests.{test, and-pair, and-fst, and-snd, le-by, le-or-lt}
 use Rattle.schedule.proofs.Counting.{count-lt, count-but, count-mono}
-use Rattle.sets.specs.Sets.{has}
-use Rattle.sets.specs.Walk.{least}
+use Rattle.sets.specs.Sets.{has, Without, First, Rest}
 
 -- what holds at 0 and at 1 holds of a digit
 digit : (P : ℕ → Type 0) → P 0 → P 1 → (n : ℕ) → P (n % 2)
@@ -57,6 +56,10 @@ or-has = op-has bitOr (λ p q. p || q) or-shr or-mod refl refl refl refl
 pub high-has : (x j : ℕ) → x < 2 ^ j → has x j ≡ false
 unfolding has
 high-has x j h = ap (λ (n : ℕ). eqb (n % 2) 1) (div-eq-of-lt h)
+
+-- a set has none of the jobs from 64 on
+pub past-has : (x j : ℕ) → x < 2 ^ 64 → 64 ≤ j → has x j ≡ false
+past-has x j hx h = high-has x j (lt-of-lt-of-le hx (pow-mono {i = 64} {j = j} h))
 
 -- The count of ones of the n low digits is the count of the numbers below n that are in the set.
 ones-digit : (d : ℕ) → ones (d % 2) ≡ one (eqb (d % 2) 1)
@@ -134,10 +137,10 @@ except-has x y j hx hy =
   where
     go : Dec (j < 64) → (has x j && has ((2 ^ 64 - 1) - y) j) ≡ (has x j && not (has y j))
     go (yes h) = ap (λ (b : Bool). has x j && b) (not-has 64 y j hy h)
-    go (no h) = simp (high-has x j (lt-of-lt-of-le hx (pow-mono {i = 64} {j = j} (omega arith))))
+    go (no h) = simp (past-has x j hx (omega arith))
 
-pub without-has : (x i j : ℕ) → x < 2 ^ 64 → i < 64 → has (bitAnd x ((2 ^ 64 - 1) - only i)) j ≡ (has x j && not (eqb j i))
-without-has x i j hx hi = except-has x (only i) j hx (mod-lt (1 * 2 ^ i) (lit< tt)) ∙ ap (λ (b : Bool). has x j && not b) (only-has i j hi)
+pub without-has : (x i : ℕ) → x < 2 ^ 64 → i < 64 → Without x i (bitAnd x ((2 ^ 64 - 1) - only i))
+without-has x i hx hi j = except-has x (only i) j hx (mod-lt (1 * 2 ^ i) (lit< tt)) ∙ ap (λ (b : Bool). has x j && not b) (only-has i j hi)
 
 -- counts of tests that agree agree; a count is at most the numbers counted
 pub count-same : (n : ℕ) (p q : ℕ → Bool) → ((j : ℕ) → j < n → p j ≡ q j) → count n p ≡ count n q
@@ -162,6 +165,21 @@ low-same (suc n) x y h =
 
 pub has-same : (n x y : ℕ) → x < 2 ^ n → y < 2 ^ n → ((j : ℕ) → j < n → has x j ≡ has y j) → x ≡ y
 has-same n x y hx hy h = sym (mod-eq-of-lt hx) ∙ low-same n x y h ∙ mod-eq-of-lt hy
+
+-- a number is below its power of two
+pub below-pow : (n : ℕ) → n < 2 ^ n
+below-pow zero = omega arith
+below-pow (suc n) = rw pow-suc (omega (arith, below-pow n))
+
+-- sets with the same members are the same number
+pub digits-same : (x y : ℕ) → ((j : ℕ) → has x j ≡ has y j) → x ≡ y
+digits-same x y h = has-same (x + y) x y (low x y) (high y x) (λ j l. h j)
+  where
+    low : (x y : ℕ) → x < 2 ^ (x + y)
+    low x y = omega (arith, below-pow x, pow-mono {i = x} {j = x + y} (omega arith))
+
+    high : (x y : ℕ) → x < 2 ^ (y + x)
+    high x y = omega (arith, below-pow x, pow-mono {i = x} {j = y + x} (omega arith))
 
 -- A loop that builds a set by a test p, number by number: below i + 1 is below i, or i.
 pub ltb-more : (j i : ℕ) → ltb j (i + 1) ≡ (ltb j i || eqb j i)
@@ -274,16 +292,31 @@ lessened (suc k) x j h f = go (x % 2) refl j (λ i g. lessened k (x / 2) i (let 
         let s : (x - 1) / 2 ≡ x / 2 = omega arith in
         simp (half-has, s, eqb·suc-zero) (twice (has (x / 2) i))
 
--- the lowest one taken out of x
-pub rest-has : (x j : ℕ) → x < 2 ^ 64 → (x ≡ 0 → ⊥) → has (bitAnd x (x - 1)) j ≡ (has x j && not (eqb j (least x)))
-rest-has x j h f = and-has x (x - 1) j ∙ lessened 64 x j h f
+-- the first job of x, as the code counts it
+pub first-is : (x : ℕ) → x < 2 ^ 64 → First x (trailingZeros 64 x)
+first-is x h = record { lowest = trailing-none 64 x; met = trailing-has 64 x h; none = λ e. rw e (trailing-of-zero 64) }
 
--- a walk that takes the first job k of x has x without k before it
-pub rest-walk : (x y k : ℕ) → k ≡ least x → ((j : ℕ) → has y j ≡ (has x j && not (eqb j (least x)))) → (j : ℕ) → has y j ≡ (has x j && not (eqb j k))
-rest-walk x y k e w j = rw e (w j)
+-- and no other
+pub first-only : (x a b : ℕ) → First x a → First x b → a ≡ b
+first-only x a b f g = ⊎-elim
+    (λ some. let more : x ≡ 0 → ⊥ = λ e. omega arith in le-antisymm (le-by a b (λ l. under-first b g f more l)) (le-by b a (λ l. under-first a f g more l)))
+    (λ l. let e : x ≡ 0 = omega arith in f .none e ∙ sym (g .none e))
+    (le-or-lt 1 x)
+  where
+    under-first : {c : ℕ} (d : ℕ) → First x d → First x c → (x ≡ 0 → ⊥) → d < c → ⊥
+    under-first d p q more l = subst T (q .lowest d l) (p .met more .1)
+
+-- x and one less than it, where 0 wraps, is x without its first job
+pub rest-is : (x y : ℕ) → x < 2 ^ 64 → y < 2 ^ 64 → (y + 1) % 2 ^ 64 ≡ x → Rest x (bitAnd x y)
+rest-is x y hx hy e k f j = and-has x y j ∙ ⊎-elim
+    (λ some.
+    let less : y ≡ x - 1 = omega arith in
+    rw (less, first-only x k (trailingZeros 64 x) f (first-is x hx)) (lessened 64 x j hx (λ z. omega arith)))
+    (λ l. let z : x ≡ 0 = omega arith in rw z (simp (empty-has j)))
+    (le-or-lt 1 x)
 
 -- A walk over a set, job by job: x without k is y.
-module _ (x y k : ℕ) (w : (j : ℕ) → has y j ≡ (has x j && not (eqb j k))) where
+module _ (x y k : ℕ) (w : Without x k y) where
   pub walk-sub : (j : ℕ) → T (has y j) → T (has x j)
   walk-sub j t = and-fst (has x j) (not (eqb j k)) (rw (w j) at t)
 
@@ -303,8 +336,8 @@ module _ (x y k : ℕ) (w : (j : ℕ) → has y j ≡ (has x j && not (eqb j k))
       omega (arith, walk-less l t, count-but 64 (has x) k)
 
 -- the walk over a set with its first job taken out is shorter
-pub rest-less : (x y k : ℕ) → k < 64 → T (has x k) → k ≡ least x → ((j : ℕ) → has y j ≡ (has x j && not (eqb j (least x)))) → count 64 (has y) < count 64 (has x)
-rest-less x y k l t e w = walk-less x y k (rest-walk x y k e w) l t
+pub rest-less : (x y k : ℕ) → (x ≡ 0 → ⊥) → First x k → Rest x y → count 64 (has y) < count 64 (has x)
+rest-less x y k some f r = walk-less x y k (r k f) (f .met some .0) (f .met some .1)
 
 -- sets apart have an empty meet
 none-both : (a b : Bool) → (T a → T b → ⊥) → (a && b) ≡ false

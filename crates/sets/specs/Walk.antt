@@ -1,14 +1,9 @@
--- What the rule and a walk read from sets of jobs.
+-- What the rule reads from sets of jobs.
 -- Assumes nothing.
 use Prim.Native.Nat.{ℕ}
 use mathlib.Core.Bool.{Bool, not, _&&_, _||_}
-use lib.Count.{trailingZeros}
 use lib.Dec.{eqb}
 use Rattle.sets.specs.Sets.{has}
-
--- the first job of a set that has one: as many as the zeros below its lowest one
-abbrev pub least : ℕ → ℕ
-least set = trailingZeros 64 set
 
 -- job j is due, and (follows job i or starts late), and is not i (01, Code places: "count_ones of the due set and (followers or late starters), without job i")
 abbrev pub pressed : ℕ → ℕ → ℕ → ℕ → ℕ → Bool

@@ -1,34 +1,41 @@
-// Sets of jobs in 64 bits.
+// Sets of jobs in 64 bits. A set has none of the jobs from 64 on.
 use schedule::JobIndex;
-ghost use mathlib.Core.Bool.{false, _&&_, _||_, not};
 ghost use mathlib.Core.Path.{_≡_};
-ghost use Prim.Native.Nat.{ℕ, _<_, _≤_};
-ghost use lib.Dec.{T, eqb, ltb};
+ghost use Prim.Native.Nat.{_<_};
 ghost use Rattle.schedule.specs.Count.{count};
-ghost use Rattle.sets.specs.Sets.{has};
-ghost use Rattle.sets.specs.Walk.{least, pressed};
+ghost use Rattle.sets.specs.Sets.{has, With, Without, Below, First, Rest};
+ghost use Rattle.sets.specs.Walk.{pressed};
+
+// How many jobs a set can hold.
+const JOBS: usize = 64;
 
 // Whether a job is in the set.
 pub fn has(set: u64, job: JobIndex) -> bool
-    requires { ⌜ job .0 < 64 ⌝ }
     ensures { λ r. ⌜ r ≡ has set (job .0) ⌝ }
 {
+    if job.0 >= JOBS {
+        return false;
+    }
     (set >> job.0) % 2 == 1
 }
 
 // The set with one job more.
 pub fn with(set: u64, job: JobIndex) -> u64
-    requires { ⌜ job .0 < 64 ⌝ }
-    ensures { λ r. ⌜ ((j : ℕ) → has r j ≡ (has set j || eqb j (job .0))) ⌝ }
+    ensures { λ r. ⌜ With set (job .0) r ⌝ }
 {
+    if job.0 >= JOBS {
+        return set;
+    }
     set | (1u64 << job.0)
 }
 
 // The set without one job.
 pub fn without(set: u64, job: JobIndex) -> u64
-    requires { ⌜ job .0 < 64 ⌝ }
-    ensures { λ r. ⌜ ((j : ℕ) → has r j ≡ (has set j && not (eqb j (job .0)))) ⌝ }
+    ensures { λ r. ⌜ Without set (job .0) r ⌝ }
 {
+    if job.0 >= JOBS {
+        return set;
+    }
     set & !(1u64 << job.0)
 }
 
@@ -41,29 +48,26 @@ pub fn size(set: u64) -> usize
 
 // The jobs below n.
 pub fn below(n: usize) -> u64
-    requires { ⌜ n ≤ 64 ⌝ }
-    ensures { λ r. ⌜ ((j : ℕ) → has r j ≡ ltb j n) ⌝ }
+    ensures { λ r. ⌜ Below n r ⌝ }
 {
-    if n == 64 {
+    if n >= JOBS {
         return !0u64;
     }
     (1u64 << n) - 1
 }
 
-// The first job of a set that has one.
+// The first job of the set, 64 for none.
 pub fn first(set: u64) -> JobIndex
-    requires { ⌜ (set ≡ 0 → ⊥) ⌝ }
-    ensures { λ r. ⌜ (r .0 < 64) × T (has set (r .0)) × ((j : ℕ) → j < r .0 → has set j ≡ false) × (r .0 ≡ least set) ⌝ }
+    ensures { λ r. ⌜ First set (r .0) ⌝ }
 {
     JobIndex(u64::trailing_zeros(set) as usize)
 }
 
 // The set without its first job.
 pub fn rest(set: u64) -> u64
-    requires { ⌜ (set ≡ 0 → ⊥) ⌝ }
-    ensures { λ r. ⌜ ((j : ℕ) → has r j ≡ (has set j && not (eqb j (least set)))) ⌝ }
+    ensures { λ r. ⌜ Rest set r ⌝ }
 {
-    set & (set - 1)
+    set & std::num::wrapping_sub_u64(set, 1)
 }
 
 // N: how many jobs other than this one are due, and follow it or start late.
