@@ -95,7 +95,8 @@ module _ (starts deadlines before row due : List ℕ) (s : Settleable starts dea
     settles-fits after e h =
         let earliest = exists-earliest (jobs-in (length starts) starts before) (s .closed) (s .loopless) in
         let x = latest-lent e (earliest .0) (earliest .1) in
-        passed (λ no. no (row-iff-plan 2 (jobs-in (length starts) starts before) (earliest .0) (row-in deadlines) (omega arith) (omega arith) (s .closed) (earliest .1) .0 (row-in times, x .consistent, x .beneath))) (record { accepts = refl; times = times; latest = latest-lent e; handed = h })
+        passed (λ no. no (row-iff-plan 2 (jobs-in (length starts) starts before) (earliest .0) (row-in deadlines) (omega arith) (omega arith) (s .closed) (earliest .1) .0 (row-in times, x .consistent, x .beneath)))
+        (record { accepts = refl; times = times; latest = latest-lent e; handed = h })
 
     pub settles-none : found ≡ false → Settles starts deadlines before row (judged row 4 0)
     settles-none e = refused 4 0 (subst (λ (f : ℕ → ℕ). HasPlan 2 (jobs-in (length starts) starts before) f → ⊥) alike (t .none e), refl, refl) refl

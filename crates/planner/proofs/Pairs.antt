@@ -89,7 +89,8 @@ spells-more pairs rows next n s f = rw add-one (record { long = ⊎-elim (λ u. 
     )
 
 -- a before b closes a loop where they are one, or b is in the set before a
-pub looping-is : (pairs rows : List ℕ) (p a b : ℕ) → Spells pairs p rows → a ≡ first-of pairs p → b ≡ second-of pairs p → T (eqb a b || has (getD rows a 0) b) ↔ ((first-of pairs p ≡ second-of pairs p) ⊎ Chain (pairs-of pairs p) (second-of pairs p) (first-of pairs p))
+pub looping-is : (pairs rows : List ℕ) (p a b : ℕ) → Spells pairs p rows → a ≡ first-of pairs p → b ≡ second-of pairs p →
+    T (eqb a b || has (getD rows a 0) b) ↔ ((first-of pairs p ≡ second-of pairs p) ⊎ Chain (pairs-of pairs p) (second-of pairs p) (first-of pairs p))
 looping-is pairs rows p a b s e f = rw (e, f) (
   (λ t. ⊎-elim (λ u. inl (eqb→eq x y u)) (λ u. inr (s .chains y x .0 u)) (or-split (eqb x y) (has (getD rows x 0) y) t)),
   (λ u. ⊎-elim (λ t. or-left (eqb x y) (has (getD rows x 0) y) (eq→eqb x y t)) (λ t. or-right (eqb x y) (has (getD rows x 0) y) (s .chains y x .1 t)) u),

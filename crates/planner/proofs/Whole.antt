@@ -5,7 +5,7 @@ use mathlib.Core.Logic.{inl, inr}
 use mathlib.Core.Path.{_≡_, refl, sym}
 use Prim.Native.Nat.{ℕ, _/_, _≤_, _<_}
 use native.Mathlib.Omega.{arith}
-use lib.ListN.{length, getD}
+use lib.ListN.{length}
 use Rattle.schedule.specs.Jobs.{Jobs}
 use Rattle.schedule.specs.Times.{Earliest, Latest}
 use Rattle.schedule.specs.Listed.{Listed, Looped, Formed, Reads, written}

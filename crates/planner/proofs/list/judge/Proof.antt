@@ -31,9 +31,11 @@ sound c = record {
   free = none-at _ _ _ (c .before .looping-pair .ensures .first) (c .if7 .left);
 }
 
-spells : (c : tie.Else7) → let p = c .before .before .before .before .before .before .before .before .before .before .before .before .before .before .before .args .pairs .now in Spells p (length p / 2) (c .before .looping-pair .last .1 .1 .0)
+spells : (c : tie.Else7) → let p = c .before .before .before .before .before .before .before .before .before .before .before .before .before .before .before .args .pairs .now in
+    Spells p (length p / 2) (c .before .looping-pair .last .1 .1 .0)
 spells c =
-    let e : c .before .looping-pair .result ≡ length (c .before .before .before .before .before .before .before .before .before .before .before .before .before .before .before .args .pairs .now) / 2 = omega (arith, c .before .looping-pair .ensures .first .within, c .if7 .left) in
+    let e : c .before .looping-pair .result ≡ length (c .before .before .before .before .before .before .before .before .before .before .before .before .before .before .before .args .pairs .now) / 2
+    = omega (arith, c .before .looping-pair .ensures .first .within, c .if7 .left) in
     rw e at (c .before .looping-pair .ensures .spells)
 
 returns : tie.Need-returns
@@ -70,8 +72,10 @@ returns-5 : tie.Need-returns-5
 returns-5 c =
     let u = c .before .before .before .before .unsound-job in
     let l = c .before .before .before .if5 .taken in
-    let x = number-at _ _ _ _ _ _ (c .fault .ensures) (u .ensures .found l .1) in
-    (refuses-each (λ n. 1 ≤ n) (times-checks _ _ _) _ _ (omega arith, omega arith) x, refused _ _ (inl (inr (shape (c .before .before .before .before .before .before), inr ((λ g. omega arith), inl (u .result .0, l, u .ensures .before, x))))) refl)
+    let x = number-at _ _ _ _ _ _ (c .fault .ensures) (u .ensures .found l .1) in (
+      refuses-each (λ n. 1 ≤ n) (times-checks _ _ _) _ _ (omega arith, omega arith) x,
+      refused _ _ (inl (inr (shape (c .before .before .before .before .before .before), inr ((λ g. omega arith), inl (u .result .0, l, u .ensures .before, x))))) refl,
+    )
 
 unheld-pair-requires : tie.Need-unheld-pair-requires
 unheld-pair-requires c κs = search needs

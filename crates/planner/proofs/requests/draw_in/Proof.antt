@@ -89,7 +89,8 @@ none-requires c κs = search needs
 
 -- the book with the deadline drawn in
 drawn : (c : tie.After-none) (L : Listed) → let s = c .before .before .before .before .before .before .before .before .before .before in Told (held (s .args .times .now) (s .args .before .now)) L →
-    Grows (with-deadline L (s .args .job .0) (s .args .deadline)) (posed (c .before .before .before .before .before .before .before .before .wide .result) (s .args .times .now) (s .args .before .now) (c .none .result) (s .args .job .0) (s .args .deadline))
+    Grows (with-deadline L (s .args .job .0) (s .args .deadline))
+    (posed (c .before .before .before .before .before .before .before .before .wide .result) (s .args .times .now) (s .args .before .now) (c .none .result) (s .args .job .0) (s .args .deadline))
 drawn c L t = deadline-posed L _ _ t _ _ _ _ (c .none .ensures) (c .before .before .before .before .before .before .before .before .wide .ensures .0) (omega arith) (omega arith) (omega arith)
 
 unwaited : (c : tie.After-none) {L : Listed} → let s = c .before .before .before .before .before .before .before .before .before .before in Told (held (s .args .times .now) (s .args .before .now)) L →
@@ -99,7 +100,8 @@ unwaited c t = sym (ap (joined-rows _) (c .none .ensures) ∙ rows-same _ (t .sh
 settle-requires : tie.Need-settle-requires
 settle-requires c κs =
     let s = c .before .before .before .before .before .before .before .before .before .before in
-    times-ready (s .pre .0) _ _ (s .pre .1) _ _ _ _ _ (c .before .before .before .before .before .before .before .before .wide .ensures .0) (omega (arith, s .pre .1 .shaped .few, c .before .before .before .before .before .before .before .before .wide .ensures .0)) (nothing-low _ (c .none .ensures)) (drawn c (s .pre .0) (s .pre .1))
+    let w = c .before .before .before .before .before .before .before .before .wide .ensures .0 in
+    times-ready (s .pre .0) _ _ (s .pre .1) _ _ _ _ _ w (omega (arith, s .pre .1 .shaped .few, w)) (nothing-low _ (c .none .ensures)) (drawn c (s .pre .0) (s .pre .1))
 
 returns-5 : tie.Need-returns-5
 returns-5 c =
