@@ -24,7 +24,8 @@ use Rattle.book.specs.Told.{Book, jobs-of, latest-of, row-in, Told}
 use Rattle.planner.specs.Requests.{Plannable, Applied, answered, Applies}
 use Rattle.planner.specs.declared.chains.Pending.{Pending}
 use Rattle.planner.specs.Inner.Chains.{Links, entries, joined-rows}
-use Rattle.sets.proofs.Bits.{only, with-has}
+use Rattle.sets.proofs.Bits.{only}
+use Rattle.sets.proofs.Range.{with-is}
 use Rattle.schedule.proofs.Same.{reads-one, plan-one}
 use Rattle.refusal.proofs.Table.{then-table}
 use Rattle.planner.proofs.Outcome.{applies-by}
@@ -61,7 +62,7 @@ tight-exists L grown g p = (
 links-exist : (old : List ℕ) (a b : ℕ) → length old ≡ 64 → a < 64 → b < 64 → (new : List ℕ) × (length new ≡ 64) × Links a b old new
 links-exist old a b l la lb =
     let p : Pending = record { job = record { 0 = b }; more = bitOr (getD old a 0) (only a) } in
-    (joined-rows old p, rows-long old p, joined-links old a p l lb (λ x. with-has (getD old a 0) a x la))
+    (joined-rows old p, rows-long old p, joined-links old a p l lb la (with-is (getD old a 0) a la))
 
 -- ---- the outcome
 pub record Accepts (k : Book) (q : Request) : Type 0 where

@@ -14,11 +14,12 @@ use lib.Seq.{ext-getD}
 use Rattle.schedule.proofs.Tests.{le-or-lt, cond-case, or-left, or-right, or-split, eq→eqb}
 use Rattle.schedule.specs.Listed.{Listed, with-order}
 use Rattle.planner.specs.declared.chains.Pending.{Pending}
-use Rattle.sets.specs.Sets.{has}
+use Rattle.sets.specs.Sets.{has, With}
 use Rattle.book.specs.Told.{Book, Told}
 use Rattle.planner.specs.Inner.Chains.{Links, nothing, joined-of, entries, joined-rows}
 use Rattle.planner.specs.Inner.Tighten.{Tightenable, Tightens}
 use Rattle.sets.proofs.Bits.{or-has, empty-has}
+use Rattle.sets.proofs.Range.{with-in}
 use Rattle.planner.proofs.Step.{Grows, order-grows, false-T}
 
 -- what a joined row has
@@ -89,9 +90,12 @@ pub nothing-tight : (m size : ℕ) (start before row next : List ℕ) (fits : Bo
 nothing-tight m size start before row next fits p e l t = rw (e, rows-same before l) at t
 
 -- a and all that precedes a
-pub joined-links : (rows : List ℕ) (a : ℕ) (p : Pending) → length rows ≡ 64 → p .job .0 < 64 → ((x : ℕ) → has (p .more) x ≡ (has (getD rows a 0) x || eqb x a)) → Links a (p .job .0) rows (joined-rows rows p)
-joined-links rows a p lr hb m x y = go (le-or-lt 64 y)
+pub joined-links : (rows : List ℕ) (a : ℕ) (p : Pending) → length rows ≡ 64 → p .job .0 < 64 → a < 64 → With (getD rows a 0) a (p .more) → Links a (p .job .0) rows (joined-rows rows p)
+joined-links rows a p lr hb la w x y = go (le-or-lt 64 y)
   where
+    m : (x : ℕ) → has (p .more) x ≡ (has (getD rows a 0) x || eqb x a)
+    m = with-in (getD rows a 0) a (p .more) la w
+
     in-more : (x : ℕ) → T (has (p .more) x) ↔ ((x ≡ a) ⊎ T (has (getD rows a 0) x))
     in-more x = (
       (λ t. ⊎-elim (λ u. inr u) (λ u. inl (eqb→eq x a u)) (or-split (has (getD rows a 0) x) (eqb x a) (rw (m x) at t))),
@@ -112,7 +116,7 @@ joined-links rows a p lr hb m x y = go (le-or-lt 64 y)
     )
 
 -- a book whose rows have the order
-pub pending-grows : (L : Listed) (k : Book) → Told k L → (a : ℕ) (p : Pending) → a < k .size → p .job .0 < k .size → ((x : ℕ) → has (p .more) x ≡ (has (getD (k .before) a 0) x || eqb x a)) →
+pub pending-grows : (L : Listed) (k : Book) → Told k L → (a : ℕ) (p : Pending) → a < k .size → p .job .0 < k .size → With (getD (k .before) a 0) a (p .more) →
     (a ≡ p .job .0 → ⊥) → (T (has (getD (k .before) a 0) (p .job .0)) → ⊥) → Grows (with-order L a (p .job .0)) (record { size = k .size; start = k .start; latest = k .latest; before = joined-rows (k .before) p })
 pending-grows L k t a p la lb m =
-    order-grows L k t a (p .job .0) la lb (joined-rows (k .before) p) (rows-long (k .before) p) (joined-links (k .before) a p (t .shaped .befores) (omega (arith, t .shaped .few)) m)
+    order-grows L k t a (p .job .0) la lb (joined-rows (k .before) p) (rows-long (k .before) p) (joined-links (k .before) a p (t .shaped .befores) (omega (arith, t .shaped .few)) (omega (arith, t .shaped .few)) m)

@@ -1,16 +1,16 @@
 -- A request posed to the engine: the grown book as it lies in lent memory, and what the last check leaves of it.
 -- Assumes nothing.
-use mathlib.Core.Bool.{Bool, true, false, _||_}
+use mathlib.Core.Bool.{Bool, true, false}
 use mathlib.Core.List.{List}
 use mathlib.Core.Logic.{inl}
 use mathlib.Core.Path.{_≡_, refl, sym, ap, _∙_}
 use Prim.Native.Nat.{ℕ, _+_, _≤_, _<_}
 use native.Mathlib.Omega.{arith}
-use lib.Dec.{T, eqb}
+use lib.Dec.{T}
 use lib.ListN.{length, getD, set, length-set}
 use lib.Seq.{set-getD}
 use Rattle.schedule.specs.Listed.{Listed, with-job, with-order, with-deadline}
-use Rattle.sets.specs.Sets.{has}
+use Rattle.sets.specs.Sets.{has, With}
 use Rattle.book.specs.Told.{Book, part, held, Told}
 use Rattle.book.proofs.Parts.{part-at, part-in, part-out, held-long, held-size, with-size, with-latest}
 use Rattle.planner.specs.declared.chains.Pending.{Pending}
@@ -94,7 +94,7 @@ module _ (L : Listed) (times before : List ℕ) (t : Told (held times before) L)
       times-none y = posed-none M n times before p j d g k 0 after fits x (held after before) y (ap (λ (l : List ℕ). held l before) (x .left y))
 
   -- an order of two jobs
-  pub order-posed : (a : ℕ) (p : Pending) (n : ℕ) → n ≡ k .size → a < n → p .job .0 < n → ((x : ℕ) → has (p .more) x ≡ (has (getD before a 0) x || eqb x a)) → (a ≡ p .job .0 → ⊥) →
+  pub order-posed : (a : ℕ) (p : Pending) (n : ℕ) → n ≡ k .size → a < n → p .job .0 < n → With (getD before a 0) a (p .more) → (a ≡ p .job .0 → ⊥) →
       (T (has (getD before a 0) (p .job .0)) → ⊥) → Grows (with-order L a (p .job .0)) (posed n times before p (p .job .0) (getD times (65 + p .job .0) 0))
   order-posed a p n size la lb more apart free =
       let same : set (part 65 times) (p .job .0) (getD times (65 + p .job .0) 0) ≡ part 65 times

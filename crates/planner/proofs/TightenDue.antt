@@ -1,6 +1,6 @@
 -- The jobs of a set whose time is below a limit, gathered one by one.
 -- Assumes nothing.
-use mathlib.Core.Bool.{not, _&&_, _||_}
+use mathlib.Core.Bool.{_&&_, _||_}
 use mathlib.Core.List.{List}
 use mathlib.Core.Logic.{_⊎_, inl, inr, ⊎-elim}
 use mathlib.Core.Path.{_≡_, refl, ap, _∙_}
@@ -11,11 +11,12 @@ use lib.Dec.{T, eqb, eqb→eq, eqb-refl, leb, ltb, ltb→lt, lt→ltb}
 use lib.ListN.{getD}
 use Rattle.schedule.proofs.Tests.{and-fst, and-snd, and-pair, or-left, or-right, or-split, same-test, le-or-lt}
 use Rattle.planner.specs.declared.tighten.Due.{Due}
-use Rattle.sets.specs.Sets.{has}
+use Rattle.sets.specs.Sets.{has, Without, Below}
 use Rattle.planner.specs.Inner.Tighten.{DueAmong}
 use Rattle.planner.specs.Inner.Tighten.Rule.{DueBy}
 use Rattle.book.specs.Told.{row-in}
 use Rattle.sets.proofs.Bits.{has-some, walk-sub, walk-split}
+use Rattle.sets.proofs.Range.{below-in}
 
 -- what is known while the set is walked: those of `rest` are still to come
 pub record Gathered (limit among : ℕ) (row : List ℕ) (d jobs rest : ℕ) : Type 0 where
@@ -28,7 +29,7 @@ pub gathered-none : (limit among : ℕ) (row : List ℕ) → Gathered limit amon
 gathered-none limit among row = record { within = λ j t. t; into = λ j t. absurd (has-some 0 j t refl); met = λ j t. inl t; low = inl (refl, refl) }
 
 module _ {limit among : ℕ} {row : List ℕ} {d jobs rest : ℕ} (g : Gathered limit among row d jobs rest) where
-  module _ (k left : ℕ) (w : (j : ℕ) → has left j ≡ (has rest j && not (eqb j k))) (t : T (has rest k)) (small : getD row k 0 < 65536) where
+  module _ (k left : ℕ) (w : Without rest k left) (t : T (has rest k)) (small : getD row k 0 < 65536) where
     pub gathered-more : (d′ more : ℕ) → getD row k 0 < limit → ((j : ℕ) → has more j ≡ (has jobs j || eqb j k)) →
         d ≤ d′ → getD row k 0 ≤ d′ → d′ < limit → Gathered limit among row d′ more left
     gathered-more d′ more h m up here low = record {
@@ -66,8 +67,8 @@ pub record Among (size limit : ℕ) (row : List ℕ) (among : ℕ) : Type 0 wher
   pub inside : (j : ℕ) → T (has among j) → j < size
   pub all : (j : ℕ) → j < size → (getD row j 0 < limit) ⊎ (65536 ≤ limit) → T (has among j)
 
-pub among-start : (size limit : ℕ) (row : List ℕ) (among : ℕ) → ((j : ℕ) → has among j ≡ ltb j size) → Among size limit row among
-among-start size limit row among w = record { inside = λ j t. ltb→lt j size (rw (w j) at t); all = λ j l h. rw (w j) (lt→ltb j size l) }
+pub among-start : (size limit : ℕ) (row : List ℕ) (among : ℕ) → size ≤ 64 → Below size among → Among size limit row among
+among-start size limit row among few b = let w = below-in size among few b in record { inside = λ j t. ltb→lt j size (rw (w j) at t); all = λ j l h. rw (w j) (lt→ltb j size l) }
 
 -- the jobs of the row whose time is below a limit, and the greatest such time
 pub record DueBelow (limit size : ℕ) (row : List ℕ) (r : Due) : Type 0 where

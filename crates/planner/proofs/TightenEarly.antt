@@ -1,12 +1,12 @@
 -- Earliest times, job by job.
 -- Assumes nothing.
-use mathlib.Core.Bool.{Bool, true, false, not, _&&_}
+use mathlib.Core.Bool.{Bool, true, false}
 use mathlib.Core.List.{List}
 use mathlib.Core.Logic.{_⊎_, inl, inr, ⊎-elim}
 use mathlib.Core.Path.{_≡_, refl, sym, ap, subst, _∙_}
 use Prim.Native.Nat.{ℕ, zero, suc, _+_, _≤_, _<_}
 use native.Mathlib.Omega.{arith}
-use lib.Dec.{T, eqb, ltb, ltb→lt}
+use lib.Dec.{T, ltb, ltb→lt}
 use lib.ListN.{length, length-set, getD, set}
 use lib.Seq.{getD-set-same, getD-set-other}
 use borrow.Author.Count.{below-more}
@@ -19,12 +19,13 @@ use Rattle.schedule.specs.Times.{Raised, Earliest}
 use Rattle.schedule.proofs.Search.{Empty, Least, least}
 use Rattle.schedule.proofs.Counting.{count-lt, count-pos, count-find, count-bound}
 use Rattle.schedule.proofs.Rows.{Put, put-cases, put-all, put-same}
-use Rattle.sets.specs.Sets.{has}
+use Rattle.sets.specs.Sets.{has, Without, Below}
 use Rattle.book.specs.Told.{jobs-in, row-in}
 use Rattle.planner.specs.Inner.Tighten.Early.{Unblocked, After, Startable, Begins}
 use Rattle.schedule.proofs.Tests.{test, le-by}
 use Rattle.schedule.proofs.Early.{raise, raise-earliest}
 use Rattle.sets.proofs.Bits.{walk-sub, walk-split, walk-one, has-some, count-cut}
+use Rattle.sets.proofs.Range.{below-in}
 
 -- ---- after every job of a set: what is known while the set is walked
 pub record Reached (start set : ℕ) (early : List ℕ) (time rest : ℕ) : Type 0 where
@@ -37,7 +38,7 @@ pub reached-start : (start set : ℕ) (early : List ℕ) → Reached start set e
 reached-start start set early = record { from = omega arith; within = λ a t. t; later = λ a t. inl t; some = inl refl }
 
 module _ (start set : ℕ) (early : List ℕ) (time rest : ℕ) (r : Reached start set early time rest) where
-  module _ (k left : ℕ) (w : (j : ℕ) → has left j ≡ (has rest j && not (eqb j k))) (t : T (has rest k)) where
+  module _ (k left : ℕ) (w : Without rest k left) (t : T (has rest k)) where
     -- job k taken: the time stays, or is one above its time
     pub reached-same : getD early k 0 < time → Reached start set early time left
     reached-same h = record {
@@ -138,8 +139,8 @@ module _ {size : ℕ} {start before : List ℕ} (s : Startable size start before
   e : Earliest J E
   e = raise-earliest J (s .closed) (s .loopless)
 
-  pub making-start : (early order : List ℕ) (todo : ℕ) → length early ≡ 64 → length order ≡ 64 → ((j : ℕ) → has todo j ≡ ltb j size) → Making size start before early order todo 0
-  making-start early order todo le lo w = record {
+  pub making-start : (early order : List ℕ) (todo : ℕ) → length early ≡ 64 → length order ≡ 64 → Below size todo → Making size start before early order todo 0
+  making-start early order todo le lo b = record {
     in-row = omega arith;
     lengths = (le, lo);
     inside = λ j t. ltb→lt j size (rw (w j) at t);
@@ -147,6 +148,9 @@ module _ {size : ℕ} {start before : List ℕ} (s : Startable size start before
     done = λ i l. inl (subst T (sym (w i ∙ lt-ltb i size l)) tt);
     jobs = λ l x. absurd (omega arith);
   }
+    where
+      w : (j : ℕ) → has todo j ≡ ltb j size
+      w = below-in size todo (s .few) b
 
   module _ {early order : List ℕ} {todo k : ℕ} (q : Making size start before early order todo k) where
     pub making-unblocked : k < size → (i : ℕ) × Unblocked i (getD before i 0) todo
@@ -177,7 +181,7 @@ module _ {size : ℕ} {start before : List ℕ} (s : Startable size start before
         pub making-time : time < 65535
         making-time = omega (arith, timed, s .few, earliest-low J E e (s .closed) (s .loopless) 65470 (s .starts) i li)
 
-        pub making-next : k < size → (more : ℕ) → ((j : ℕ) → has more j ≡ (has todo j && not (eqb j i))) → Making size start before (set early i time) (set order k i) more (k + 1)
+        pub making-next : k < size → (more : ℕ) → Without todo i more → Making size start before (set early i time) (set order k i) more (k + 1)
         making-next l more w = record {
           in-row = omega arith;
           lengths = (simp length-set (q .lengths .0), simp length-set (q .lengths .1));

@@ -1,6 +1,6 @@
 -- A row sinks, job by job and d by d.
 -- Assumes nothing.
-use mathlib.Core.Bool.{Bool, true, false, not, _&&_, _||_}
+use mathlib.Core.Bool.{Bool, true, false, _&&_, _||_}
 use mathlib.Core.List.{List}
 use mathlib.Core.Logic.{_⊎_, inl, inr, ⊎-elim}
 use mathlib.Core.Path.{_≡_, refl, sym, ap, ap₂, subst, _∙_}
@@ -21,7 +21,7 @@ use Rattle.schedule.proofs.Loop.{put-set}
 use Rattle.schedule.proofs.Few.{Few, own, other, consistent-few}
 use Rattle.planner.specs.declared.tighten.Due.{Due}
 use Rattle.planner.specs.declared.tighten.Moved.the-variants.{Those}
-use Rattle.sets.specs.Sets.{has}
+use Rattle.sets.specs.Sets.{has, Without}
 use Rattle.book.specs.Told.{jobs-in, row-in}
 use Rattle.planner.specs.Inner.Tighten.Tables.{Follows}
 use Rattle.planner.specs.Inner.Tighten.{Tightens, Fell, Moves, AtD, Swept, Settles}
@@ -90,7 +90,7 @@ pub lowering-start : (m : ℕ) (J : Jobs) (early : ℕ → ℕ) (row : List ℕ)
 lowering-start m J early row d due s = record { soon = s; sunk = sunk-same m J early row; still = λ z. (refl, (λ j t. inl t)); fell = λ f. absurd (f refl) }
 
 module _ {m : ℕ} {J : Jobs} {early : ℕ → ℕ} {first row : List ℕ} {d due moved rest : ℕ} (few : J .size ≤ 64) (long : length row ≡ 64) (q : Lowering m J early first row d due moved rest) where
-  module _ {i time : ℕ} (left : ℕ) (in-due : T (has due i)) (w : (j : ℕ) → has left j ≡ (has rest j && not (eqb j i)))
+  module _ {i time : ℕ} (left : ℕ) (in-due : T (has due i)) (w : Without rest i left)
       (r : Ruled m J early (row-in row) i d time) (some : time ≡ 0 → ⊥) where
     job : (i < J .size) × (getD row i 0 ≤ d)
     job = due-job (J .size) (row-in row) d due (q .soon) i in-due

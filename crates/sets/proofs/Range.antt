@@ -6,10 +6,11 @@ use mathlib.Core.Path.{_≡_, sym, ap, _∙_}
 use Prim.Native.Nat.{ℕ, _^_, _≤_, _<_}
 use native.Mathlib.Omega.{arith}
 use borrow.Author.Tests.{lt-ltb, le-ltb, ne-eqb}
+use lib.Bits.{bitOr}
 use lib.Dec.{eqb, ltb, eqb→eq}
 use Rattle.schedule.proofs.Tests.{test, le-or-lt, eq→eqb}
 use Rattle.sets.specs.Sets.{has, With, Without, Below}
-use Rattle.sets.proofs.Bits.{past-has}
+use Rattle.sets.proofs.Bits.{past-has, only, with-has}
 
 -- ---- in range
 -- job j is job i and in range, or not
@@ -22,8 +23,11 @@ is-in i j h = ⊎-elim
 pub with-in : (x i r : ℕ) → i < 64 → With x i r → (j : ℕ) → has r j ≡ (has x j || eqb j i)
 with-in x i r h w j = w j ∙ ap (λ (b : Bool). has x j || b) (is-in i j h)
 
-pub in-with : (x i r : ℕ) → i < 64 → ((j : ℕ) → has r j ≡ (has x j || eqb j i)) → With x i r
+in-with : (x i r : ℕ) → i < 64 → ((j : ℕ) → has r j ≡ (has x j || eqb j i)) → With x i r
 in-with x i r h w j = w j ∙ sym (ap (λ (b : Bool). has x j || b) (is-in i j h))
+
+pub with-is : (x i : ℕ) → i < 64 → With x i (bitOr x (only i))
+with-is x i h = in-with x i (bitOr x (only i)) h (λ j. with-has x i j h)
 
 -- below n and in range, or not
 low-in : (n j : ℕ) → n ≤ 64 → (ltb j n && ltb j 64) ≡ ltb j n

@@ -34,7 +34,7 @@ link-requires c κs = search needs
 returns : tie.Need-returns
 returns c =
     let start = c .before .before .before .before .before .before .before in
-    rw (c .link .ensures) (inr (rows-long _ _, joined-links _ _ _ (start .pre .0) (omega arith) (c .before .before .with .ensures)))
+    rw (c .link .ensures) (inr (rows-long _ _, joined-links _ _ _ (start .pre .0) (omega arith) (omega arith) (c .before .before .with .ensures)))
 
 returns-2 : tie.Need-returns-2
 returns-2 c = inl (true-T _ (sym (c .before .has .ensures) ∙ not-false _ (c .if1 .left)), refl)

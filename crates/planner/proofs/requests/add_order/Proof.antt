@@ -1,6 +1,6 @@
 -- `planner::requests::add_order` meets its contract.
 -- Assumes nothing.
-use mathlib.Core.Path.{_≡_, refl, sym, _∙_}
+use mathlib.Core.Path.{refl, sym, _∙_}
 use mathlib.Core.Logic.{inl, inr}
 use native.Mathlib.Omega.{arith}
 use Prim.Native.Nat.{_+_}
@@ -99,10 +99,13 @@ element-copy-out-due c = search needs
 
 -- the book with the order, before its times are settled
 ordered : (c : tie.After-with) (L : Listed) → let s = c .before .before .before .before .before .before .before .before .before .before .before .before .before in Told (held (s .args .times .now) (s .args .before .now)) L →
-    Grows (with-order L (s .args .first .0) (s .args .second .0)) (posed (c .before .before .before .before .before .before .before .before .before .before .before .wide .result) (s .args .times .now) (s .args .before .now) (record { job = s .args .second; more = c .with .result }) (s .args .second .0) (getD (s .args .times .now) (65 + s .args .second .0) 0))
+    Grows (with-order L (s .args .first .0) (s .args .second .0))
+    (posed (c .before .before .before .before .before .before .before .before .before .before .before .wide .result) (s .args .times .now) (s .args .before .now)
+    (record { job = s .args .second; more = c .with .result }) (s .args .second .0) (getD (s .args .times .now) (65 + s .args .second .0) 0))
 ordered c L t =
     let e = c .before .before .before .before .before in
-    order-posed L _ _ t _ _ _ (c .before .before .before .before .before .before .before .before .before .before .before .wide .ensures .0) (omega arith) (omega arith) (c .with .ensures) (e .before .before .before .if3 .left) (false-T _ (sym (e .before .has .ensures) ∙ e .if4 .left))
+    order-posed L _ _ t _ _ _ (c .before .before .before .before .before .before .before .before .before .before .before .wide .ensures .0) (omega arith) (omega arith)
+    (c .with .ensures) (e .before .before .before .if3 .left) (false-T _ (sym (e .before .has .ensures) ∙ e .if4 .left))
 
 settle-requires : tie.Need-settle-requires
 settle-requires c κs =

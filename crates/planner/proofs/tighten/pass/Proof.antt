@@ -51,7 +51,7 @@ below-requires c κs = search needs
 loop-holds : tie.Need-loop-holds Inv-loop μ-loop
 loop-holds c =
     let a = c .before .args in
-    (c .before .pre .long, search needs, among-start (a .size) 65536 (a .row .now) (c .below .result) (c .below .ensures), (λ J early e k. passing-start cores J early (a .row .now)))
+    (c .before .pre .long, search needs, among-start (a .size) 65536 (a .row .now) (c .below .result) (c .before .pre .few) (c .below .ensures), (λ J early e k. passing-start cores J early (a .row .now)))
 
 due-below-requires : tie.Need-due-below-requires Inv-loop μ-loop
 due-below-requires c κs = search needs
@@ -120,7 +120,7 @@ loop-again c =
     let sunk = c .before .before .sink in (
       sunk .ensures .0,
       omega arith,
-      among-start (a .size) (due .result .d) _ (c .below2 .result) (c .below2 .ensures),
+      among-start (a .size) (due .result .d) _ (c .below2 .result) (p .before .before .pre .few) (c .below2 .ensures),
       (λ J early e k.
           let m = moves o J early e k in
           passing-moved (p .loop .inv .3 J early e k) (below (c .before .before .before .before .before .before .before .before .before .before .before .before) (J .size) e) small

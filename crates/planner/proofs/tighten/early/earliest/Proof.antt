@@ -17,7 +17,7 @@ abbrev μ-loop : tie.MeasureT-loop
 μ-loop size start before pending early₀ order₀ todo₀ k₀ early order todo k = size - k
 
 below-requires : tie.Need-below-requires Inv-loop μ-loop
-below-requires c κs = c .before .pre .1 .few
+below-requires c κs = search needs
 
 loop-holds : tie.Need-loop-holds Inv-loop μ-loop
 loop-holds c = making-start (c .before .before .pre .1) _ _ _ (c .before .before .pre .2) (c .before .before .pre .3) (c .below .ensures)

@@ -13,7 +13,7 @@ use Rattle.schedule.specs.Jobs.{Jobs}
 use Rattle.schedule.specs.Times.{Raised}
 use Rattle.book.specs.Told.{row-in}
 use Rattle.planner.specs.Inner.Tighten.Sink.{Eased}
-use Rattle.sets.proofs.Bits.{rest-walk, rest-less, walk-sub}
+use Rattle.sets.proofs.Bits.{rest-less, walk-sub}
 use Rattle.planner.proofs.TightenLower.{eased-same, eased-follow}
 use Rattle.planner.proofs.tighten.sink.capped.Statement.{statement}
 use Rattle.planner.proofs.tighten.sink.capped.Tie as tie
@@ -26,6 +26,10 @@ Inv-loop held set row time₀ rest₀ time rest =
 abbrev μ-loop : tie.MeasureT-loop
 μ-loop held set row time₀ rest₀ time rest = count 64 (has rest)
 
+-- the first job of what is left
+met : (c : tie.After-first Inv-loop μ-loop) → (c .first .result .0 < 64) × T (has (c .before .before .loop .rest) (c .first .result .0))
+met c = c .first .ensures .met (c .before .loop-test .taken)
+
 loop-holds : tie.Need-loop-holds Inv-loop μ-loop
 loop-holds c = ((λ a t. t), (λ J early i l e f r. rw (sym e) (eased-same cores (omega arith) J early (row-in (c .args .row .now)) l)))
 
@@ -33,16 +37,16 @@ first-requires : tie.Need-first-requires Inv-loop μ-loop
 first-requires c κs = search needs
 
 mul-other : tie.Need-mul-other Inv-loop μ-loop
-mul-other c = search needs
+mul-other c = omega (arith, met c .0)
 
 element-copy-out-other : tie.Need-element-copy-out-other Inv-loop μ-loop
-element-copy-out-other c = search needs
+element-copy-out-other c = omega (arith, met c .0)
 
 returns : tie.Need-returns Inv-loop μ-loop
 returns c J early i l e f r =
     let p = c .before .before .before .before .before in
     let k = c .before .before .before .first in
-    let j = f (k .result .0) (p .loop .inv .0 (k .result .0) (k .ensures .1)) in
+    let j = f (k .result .0) (p .loop .inv .0 (k .result .0) (met (c .before .before .before) .1)) in
     let row = row-in (p .before .args .row .now) in
     let z : row (k .result .0) - 1 ≡ 0 = omega arith in
     subst (λ (n : ℕ). Eased cores J early row i n) z (eased-follow cores (omega arith) J early row l r (k .result .0) (j .0) (j .1) (p .loop .time) (p .loop .inv .1 J early i l e f r) (c .before .if1 .taken))
@@ -55,17 +59,17 @@ rest-requires c κs = search needs
 
 loop-less : tie.Need-loop-less Inv-loop μ-loop
 loop-less c =
-    let k = c .before .before .before .first in
-    rest-less _ _ _ (k .ensures .0) (k .ensures .1) (k .ensures .3) (c .rest .ensures)
+    let k = c .before .before .before in
+    rest-less _ _ _ (k .before .loop-test .taken) (k .first .ensures) (c .rest .ensures)
 
 loop-again : tie.Need-loop-again Inv-loop μ-loop
 loop-again c =
     let p = c .before .before .before .before .before in
     let k = c .before .before .before .first in
     let row = row-in (p .before .args .row .now) in (
-      (λ a t. p .loop .inv .0 a (walk-sub (p .loop .rest) (c .rest .result) (k .result .0) (rest-walk _ _ _ (k .ensures .3) (c .rest .ensures)) a t)),
+      (λ a t. p .loop .inv .0 a (walk-sub (p .loop .rest) (c .rest .result) (k .result .0) (c .rest .ensures _ (k .ensures)) a t)),
       (λ J early i l e f r.
-          let j = f (k .result .0) (p .loop .inv .0 (k .result .0) (k .ensures .1)) in
+          let j = f (k .result .0) (p .loop .inv .0 (k .result .0) (met (c .before .before .before) .1)) in
           ⊎-elim
           (λ w. rw (w .2) (eased-follow cores (omega arith) J early row l r (k .result .0) (j .0) (j .1) (p .loop .time) (p .loop .inv .1 J early i l e f r) (w .0 .taken)))
           (λ w. rw (w .1) (p .loop .inv .1 J early i l e f r))

@@ -100,7 +100,7 @@ returns c =
     )
 
 with-requires : tie.Need-with-requires Inv-loop μ-loop
-with-requires c κs = omega (arith, in-row (c .before .before .before .before .before .before .before))
+with-requires c κs = search needs
 
 loop-less : tie.Need-loop-less Inv-loop μ-loop
 loop-less c = search needs
