@@ -14,7 +14,7 @@ use lib.Bits.{bitAnd, bitOr, and-le-r, and-shr, or-shr, and-mod, or-mod}
 use lib.Count.{ones, ones-cat, trailingZeros, trailing-of-zero, under}
 use lib.Pow.{pow-pos, pow-lt, pow-mono, mod-pow-add, shr-shr, shl-exact}
 use Rattle.schedule.specs.Count.{one, count}
-use Rattle.schedule.proofs.Tests.{test, and-pair, and-fst, and-snd, le-by, le-or-lt}
+use Rattle.schedule.proofs.Tests.{test, and-pair, and-fst, and-snd, same-test, le-by, le-or-lt}
 use Rattle.schedule.proofs.Counting.{count-lt, count-but, count-mono}
 use Rattle.sets.specs.Sets.{has, Without, First, Rest}
 
@@ -227,6 +227,9 @@ empty-has j = high-has 0 j (pow-pos j)
 
 pub empty-is : (x : ℕ) → x < 2 ^ 64 → ((j : ℕ) → has x j ≡ false) → x ≡ 0
 empty-is x h f = has-same 64 x 0 h (pow-pos 64) (λ j l. f j ∙ sym (empty-has j))
+
+pub none-is : (x : ℕ) → ((j : ℕ) → T (has x j) → ⊥) → x ≡ 0
+none-is x f = digits-same x 0 (λ j. same-test (has x j) (has 0 j) (λ y. absurd (f j y)) (λ y. absurd (subst T (empty-has j) y)))
 
 -- a set with a job in it is not empty
 pub has-some : (x j : ℕ) → T (has x j) → x ≡ 0 → ⊥
