@@ -1,2 +1,3 @@
--- The three demands. "01" is the scope, "001" the paper that it rests on.
+-- The three demands, and the planners that they shut out. "01" is the scope, "001" the paper that it rests on.
 pub mod Demands
+pub mod Wrong

@@ -3,11 +3,11 @@
 use mathlib.Core.Bool.{Bool, not, _&&_}
 use mathlib.Core.Path.{_≡_, sym, ap, subst, _∙_}
 use native.Mathlib.Omega.{arith}
-use Prim.Native.Nat.{ℕ, _≤_}
+use Prim.Native.Nat.{ℕ, _≤_, _<_}
 use borrow.Author.Tests.{ne-eqb}
 use lib.Dec.{T, ltb, eqb, ltb→lt}
 use Rattle.schedule.specs.Listed.{Listed}
-use Rattle.schedule.proofs.Tests.{and-fst}
+use Rattle.schedule.proofs.Tests.{and-fst, and-snd}
 use Rattle.refusal.specs.declared.Answer.{Answer}
 use Rattle.refusal.specs.Says.{Says}
 use Rattle.refusal.specs.Table.{One}
@@ -45,6 +45,9 @@ sound-numbers L (Earlier j d) = (tt, (tt, tt))
 
 pub sound-some : (n : ℕ) → T (sound-number n) → 1 ≤ n
 sound-some n t = ltb→lt 0 n (and-fst (ltb 0 n) (ltb n 12) (and-fst (ltb 0 n && ltb n 12) (not (eqb n 4)) t))
+
+pub sound-few : (n : ℕ) → T (sound-number n) → n < 12
+sound-few n t = ltb→lt n 12 (and-snd (ltb 0 n) (ltb n 12) (and-fst (ltb 0 n && ltb n 12) (not (eqb n 4)) t))
 
 pub sound-other : (n : ℕ) → T (sound-number n) → 4 ≡ n → ⊥
 sound-other n t e = rw (← e) at t
