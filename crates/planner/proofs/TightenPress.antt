@@ -17,8 +17,7 @@ use Rattle.schedule.proofs.Tests.{le-or-lt}
 use Rattle.schedule.proofs.Round.{room-falls}
 use Rattle.schedule.proofs.Press.{N-mono, N-bound}
 use Rattle.sets.specs.Sets.{has}
-use Rattle.sets.specs.Walk.{pressed}
-use Rattle.planner.specs.Inner.Tighten.Rule.{At, Pressure}
+use Rattle.planner.specs.Inner.Tighten.Rule.{pressed, At, Pressure}
 use Rattle.sets.proofs.Bits.{count-cut}
 
 turned : (x y n : Bool) → ((x && y) && n) ≡ ((n && x) && y)

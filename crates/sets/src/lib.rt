@@ -1,10 +1,8 @@
 // Sets of jobs in 64 bits. A set has none of the jobs from 64 on.
 use schedule::JobIndex;
 ghost use mathlib.Core.Path.{_≡_};
-ghost use Prim.Native.Nat.{_<_};
 ghost use Rattle.schedule.specs.Count.{count};
 ghost use Rattle.sets.specs.Sets.{has, With, Without, Below, First, Rest};
-ghost use Rattle.sets.specs.Walk.{pressed};
 
 // How many jobs a set can hold.
 const JOBS: usize = 64;
@@ -68,12 +66,4 @@ pub fn rest(set: u64) -> u64
     ensures { λ r. ⌜ Rest set r ⌝ }
 {
     set & std::num::wrapping_sub_u64(set, 1)
-}
-
-// N: how many jobs other than this one are due, and follow it or start late.
-pub fn pressing(due: u64, followers: u64, late: u64, job: JobIndex) -> usize
-    requires { ⌜ job .0 < 64 ⌝ }
-    ensures { λ r. ⌜ r ≡ count 64 (pressed due followers late (job .0)) ⌝ }
-{
-    size(without(due & (followers | late), job))
 }

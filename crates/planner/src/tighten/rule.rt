@@ -9,9 +9,8 @@ ghost use Rattle.schedule.specs.Count.{count};
 ghost use Rattle.schedule.specs.Jobs.{Jobs};
 ghost use Rattle.schedule.specs.Times.{Earliest};
 ghost use Rattle.book.specs.Told.{cores};
-ghost use Rattle.sets.specs.Walk.{pressed};
 ghost use Rattle.planner.specs.Inner.Tighten.Tables.{Rising};
-ghost use Rattle.planner.specs.Inner.Tighten.Rule.{At, Pressure, Ruled};
+ghost use Rattle.planner.specs.Inner.Tighten.Rule.{pressed, At, Pressure, Ruled};
 
 // An entry of the times.
 fn time_at(times: &[u16; 65], k: usize) -> usize
@@ -21,12 +20,12 @@ fn time_at(times: &[u16; 65], k: usize) -> usize
     wide(times[k])
 }
 
-// N with the late starters of an entry.
-fn pressing_at(due: u64, followers: u64, late: &[u64; 65], k: usize, job: JobIndex) -> usize
-    requires { ⌜ (k < 65) × (job .0 < 64) ⌝ }
+// N with the late starters of an entry: how many jobs other than this one are due, and follow it or start late.
+fn pressing(due: u64, followers: u64, late: &[u64; 65], k: usize, job: JobIndex) -> usize
+    requires { ⌜ k < 65 ⌝ }
     ensures { λ r. ⌜ r ≡ count 64 (pressed due followers (getD (now (late .entry)) k 0) (job .0)) ⌝ }
 {
-    sets::pressing(due, followers, late[k], job)
+    sets::size(sets::without(due & (followers | late[k]), job))
 }
 
 // N at the first s at which N is at least CORES(d - s), 0 where there is none.
@@ -49,7 +48,7 @@ fn pressure<'a>(
     while time_at(times, k) < held {
         let room = CORES * (d - time_at(times, k));
         if most >= room {
-            most = pressing_at(due, followers, late, k, job);
+            most = pressing(due, followers, late, k, job);
             if most >= room {
                 return most;
             }
@@ -59,7 +58,7 @@ fn pressure<'a>(
         }
         k += 1;
     }
-    let last = pressing_at(due, followers, late, k, job);
+    let last = pressing(due, followers, late, k, job);
     if last >= least {
         return last;
     }

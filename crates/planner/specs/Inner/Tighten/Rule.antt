@@ -1,17 +1,21 @@
 -- The rule for one job and one d.
 -- Assumes nothing.
-use mathlib.Core.Bool.{_&&_}
+use mathlib.Core.Bool.{Bool, not, _&&_, _||_}
 use mathlib.Core.List.{List}
 use mathlib.Core.Logic.{_⊎_}
 use mathlib.Core.Path.{_≡_}
 use Prim.Native.Nat.{ℕ, _+_, _≤_, _<_}
-use lib.Dec.{leb, ltb}
+use lib.Dec.{eqb, leb, ltb}
 use lib.ListN.{getD}
 use Rattle.schedule.specs.Jobs.{Jobs}
 use Rattle.schedule.specs.Times.{N, Within, Full, Breach}
 use Rattle.sets.specs.Sets.{has}
 use Rattle.planner.specs.Inner.Tighten.Tables.{Levels}
 use Rattle.planner.specs.Inner.Tighten.Sink.{Eased}
+
+-- job j is due, and (follows job i or starts late), and is not i (01, Code places: "count_ones of the due set and (followers or late starters), without job i")
+abbrev pub pressed : ℕ → ℕ → ℕ → ℕ → ℕ → Bool
+pressed due followers late i j = (has due j && (has followers j || has late j)) && not (eqb j i)
 
 -- the jobs of the row that are due by d
 abbrev pub DueBy : ℕ → (ℕ → ℕ) → ℕ → ℕ → Type 0

@@ -7,8 +7,7 @@ use lib.ListN.{getD}
 use Rattle.schedule.specs.Jobs.{Jobs}
 use Rattle.schedule.proofs.Counting.{count-bound}
 use Rattle.book.specs.Told.{cores}
-use Rattle.sets.specs.Walk.{pressed}
-use Rattle.planner.specs.Inner.Tighten.Rule.{At}
+use Rattle.planner.specs.Inner.Tighten.Rule.{pressed, At}
 use Rattle.planner.proofs.TightenPress.{Passed, passed-start, passed-kept, passed-counted, passed-found, passed-none, passed-own, passed-over}
 use borrow.Author.Needs.{needs}
 use Rattle.planner.proofs.tighten.rule.pressure.Statement.{statement}
@@ -43,8 +42,8 @@ sub-room c = search needs
 mul-room : tie.Need-mul-room Inv-loop μ-loop
 mul-room c = search needs
 
-pressing-at-requires : tie.Need-pressing-at-requires Inv-loop μ-loop
-pressing-at-requires c κs = search needs
+pressing-requires : tie.Need-pressing-requires Inv-loop μ-loop
+pressing-requires c κs = search needs
 
 returns : tie.Need-returns Inv-loop μ-loop
 returns c =
@@ -52,7 +51,7 @@ returns c =
     let a = p .before .args in
     let s = p .before .pre in
     let here = c .before .before .before .before .before .time-at .ensures .0 in
-    let n = c .before .pressing-at in (
+    let n = c .before .pressing in (
       omega (arith, n .ensures, count-bound 64 (pressed (a .due) (a .followers) (getD (a .late .now) (p .loop .k) 0) (a .job .0))),
       (λ J early row x. passed-found cores x (s .2) (s .3) (s .4) (s .5) (p .loop .inv .1 J early row x)
           (omega (arith, here, c .before .before .before .before .if1 .taken)) _ (n .ensures) (omega (arith, c .before .before .before .time-at2 .ensures .0, c .if3 .taken))),
@@ -63,7 +62,7 @@ returns-2 c =
     let p = c .before .before .before .before .before .before .before in
     let s = p .before .pre in
     let here = c .before .before .before .before .before .before .time-at .ensures .0 in
-    let n = c .before .before .pressing-at in
+    let n = c .before .before .pressing in
     (omega arith, (λ J early row x. passed-none cores x (s .2) (s .3) (s .4) (s .5) (p .loop .inv .1 J early row x) (omega (arith, here, c .before .before .before .before .before .if1 .taken)) _ (n .ensures) (c .if4 .taken)))
 
 add-k : tie.Need-add-k Inv-loop μ-loop
@@ -86,15 +85,15 @@ loop-again c =
           (c .if2 .came)),
     )
 
-pressing-at-requires-2 : tie.Need-pressing-at-requires-2 Inv-loop μ-loop
-pressing-at-requires-2 c κs = search needs
+pressing-requires-2 : tie.Need-pressing-requires-2 Inv-loop μ-loop
+pressing-requires-2 c κs = search needs
 
 returns-3 : tie.Need-returns-3 Inv-loop μ-loop
 returns-3 c =
     let p = c .before .before .before .before in
     let a = p .before .args in
     let s = p .before .pre in
-    let n = c .before .pressing-at2 in (
+    let n = c .before .pressing2 in (
       omega (arith, n .ensures, count-bound 64 (pressed (a .due) (a .followers) (getD (a .late .now) (p .loop .k) 0) (a .job .0))),
       (λ J early row x. passed-own cores x (s .2) (s .3) (s .4) (s .5) (p .loop .inv .1 J early row x) (omega (arith, c .before .before .before .time-at .ensures .0, c .before .before .if1 .left)) _ (n .ensures) (c .if5 .taken)),
     )
@@ -103,7 +102,7 @@ returns-4 : tie.Need-returns-4 Inv-loop μ-loop
 returns-4 c =
     let p = c .before .before .before .before in
     let s = p .before .pre in
-    let n = c .before .pressing-at2 in (
+    let n = c .before .pressing2 in (
       omega arith,
       (λ J early row x. passed-over cores x (s .2) (s .3) (s .4) (s .5) (p .loop .inv .1 J early row x)
           (omega (arith, c .before .before .before .time-at .ensures .0, c .before .before .if1 .left)) _ (n .ensures) (c .if5 .left)),
@@ -122,12 +121,12 @@ pressure-spec =
     time-at-requires-2
     sub-room
     mul-room
-    pressing-at-requires
+    pressing-requires
     returns
     returns-2
     add-k
     loop-less
     loop-again
-    pressing-at-requires-2
+    pressing-requires-2
     returns-3
     returns-4)
