@@ -1,16 +1,12 @@
-// The planner for firmware in C and Rust: numbers and lent memory alone. A book lies in memory as its four parts.
-mod file;
-mod lent;
+// The planner for firmware in C and Rust: numbers and lent memory alone. A book lies in memory as two parts, its times and its sets.
 mod list;
-mod plan;
+mod plans;
 mod requests;
 
-pub use file::firmware_read;
-pub use file::firmware_write;
 pub use list::firmware_class;
 pub use list::firmware_judge;
-pub use plan::firmware_place;
-pub use plan::firmware_plan;
+pub use plans::firmware_place;
+pub use plans::firmware_plan;
 pub use requests::firmware_add_job;
 pub use requests::firmware_add_order;
 pub use requests::firmware_draw_in;

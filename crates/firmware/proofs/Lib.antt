@@ -1,2 +1,0 @@
--- Laws of the firmware's calls.
-pub mod Only
