@@ -1,11 +1,12 @@
 -- Demand 1: a refusal has a number of the table, and leaves the book and lent memory as they were.
 -- Assumes nothing.
 use mathlib.Core.List.{List}
-use mathlib.Core.Path.{_≡_, ap, subst, sym}
+use mathlib.Core.Path.{_≡_, ap, subst, sym, _∙_}
 use Prim.Native.Nat.{ℕ, _≤_, _<_}
 use native.Mathlib.Omega.{arith}
 use lib.Dec.{T}
 use Rattle.schedule.specs.Listed.{Listed}
+use Rattle.refusal.specs.Table.{refused, passed}
 use Rattle.refusal.proofs.Table.{Each, each-map, among-each, table-all}
 use Rattle.book.specs.Told.{Book, Made}
 use Rattle.planner.specs.declared.requests.Request.{Request}
@@ -13,6 +14,8 @@ use Rattle.planner.specs.Requests.{sound-checks, request-checks, accepts-with, 
 use Rattle.planner.specs.List.{list-of, rows-checks, list-checks, Judged, TurnedDown, Fitted, Judges}
 use Rattle.planner.proofs.Outcome.{sound-number, sound-some, sound-few, sound-numbers}
 use Rattle.planner.proofs.ListOutcome.{rows-numbers}
+use Rattle.plan.specs.Plan.{Plans}
+use Rattle.plan.specs.Place.{Places}
 use Rattle.demands.specs.Demands.{Numbered, Demand1}
 
 -- ---- every number of the tables
@@ -37,5 +40,13 @@ list starts deadlines pairs old r j h = table-all (list-checks starts deadlines 
     (λ n v y a. (subst Numbered (sym (ap (λ (z : Judged). z .number) a)) (among-each Numbered (list-checks starts deadlines pairs old) n (list-numbered starts deadlines pairs old) y), ap (λ (z : Judged). z .row) a))
     (λ g. absurd (omega (arith, ap (λ (z : Judged). z .number) (g .accepts)))) j
 
+plan : (k : Book) (old new : List ℕ) (n v : ℕ) → Plans k old new n v → 1 ≤ n → Numbered n × (new ≡ old)
+plan k old new n v (refused c w x e) h = let number : n ≡ 8 = ap (λ r. r .0) e ∙ x .1 in ((omega arith, omega arith), ap (λ r. r .2) e)
+plan k old new n v (passed x e) h = absurd (omega (arith, ap (λ r. r .0) e))
+
+place : (k : Book) (job n : ℕ) (values : List ℕ) → Places k job n values → 1 ≤ n → Numbered n
+place k job n values (refused c w x e) h = let number : n ≡ 5 = ap (λ r. r .0) e ∙ x .1 in (omega arith, omega arith)
+place k job n values (passed x e) h = absurd (omega (arith, ap (λ r. r .0) e))
+
 pub demand-1 : Demand1
-demand-1 = record { request = request; list = list }
+demand-1 = record { request = request; list = list; plan = plan; place = place }

@@ -15,14 +15,16 @@ use Rattle.schedule.specs.Make.{slots, bytes}
 use Rattle.schedule.specs.Listed.{Listed}
 use Rattle.schedule.specs.Book.{Holds}
 use Rattle.schedule.proofs.Same.{finish-one, bytes-one}
+use Rattle.refusal.specs.Table.{refused, passed}
 use Rattle.refusal.proofs.Table.{table-caught, table-free}
-use Rattle.book.specs.Told.{Book, latest-of}
+use Rattle.book.specs.Told.{Book, jobs-of, latest-of, Told}
 use Rattle.planner.specs.declared.requests.Request.{Request}
 use Rattle.planner.specs.Requests.{Plannable, Sound, request-checks, accepts-with, Applied, answered, Turned, Grown, Outcome, grow, Run}
 use Rattle.planner.specs.List.{first-of, second-of, pairs-of, list-of, Misshapen, SoundRows, list-checks, Judged, TurnedDown, Fitted, Judges}
 use Rattle.planner.proofs.Outcome.{run-told, run-one}
 use Rattle.planner.proofs.ListOutcome.{list-is-requests}
 use Rattle.planner.proofs.Unchanged.{order-unchanged, deadline-unchanged}
+use Rattle.plan.specs.Plan.{horizon, unplaced, finish-of, bytes-of, Plans}
 use Rattle.demands.specs.Demands.{Demand3, Unchanged}
 use Rattle.demands.proofs.Second.{refused-none}
 
@@ -64,6 +66,22 @@ in-rows L =
     ap (pairs-of (flat (L .orders))) half ∙ flat-pairs (L .orders) (length (L .orders)) (omega arith) ∙ take-length (L .orders) in
     λ i. record { starts = L .starts; deadlines = L .deadlines; orders = e i }
 
+-- ---- the plan
+-- no latest time held is above 4096, so as many slots are enough
+module _ (L : Listed) (k : Book) (t : Told k L) (J : Jobs) (times : ℕ → ℕ) (h : Holds 2 L J times) where
+  low : Beneath (jobs-of k) (latest-of k) (λ i. 4096)
+  low i l = omega (arith, t .holds .latest .beneath i l, t .limited .deadline i (omega (arith, t .holds .reads .size)))
+
+  defined : (old new : List ℕ) (told : ℕ) → Plans k old new 0 told → (told ≡ finish J (slots 2 J times unplaced horizon)) × (new ≡ bytes J times unplaced told ++ drop (2 * told) old)
+  defined old new told (refused c w x e) = let number : _≡_ {A = ℕ} 0 8 = ap (λ r. r .0) e ∙ x .1 in absurd (omega arith)
+  defined old new told (passed f e) =
+      let ends : told ≡ finish-of k = ap (λ r. r .1) e in
+      let same : told ≡ finish J (slots 2 J times unplaced horizon) =
+      ends ∙ finish-one L (jobs-of k) J (latest-of k) times (t .holds) h unplaced horizon unplaced horizon low (omega arith) (omega arith) (omega arith) in
+      let shown : bytes-of k ≡ bytes J times unplaced told =
+      bytes-one L (jobs-of k) J (latest-of k) times (t .holds) h unplaced horizon unplaced horizon low (omega arith) (omega arith) (omega arith) ∙ ap (bytes J times unplaced) (sym same) in
+      (same, ap (λ r. r .2) e ∙ ap₂ (λ (front : List ℕ) (n : ℕ). front ++ drop (2 * n) old) shown (sym ends))
+
 -- ---- a sound request is refused only for want of a plan, and else accepted
 module _ (L : Listed) (k : Book) (q : Request) (r : Applied) (sound : Sound L q) (o : Outcome L k q r) where
   none-refused : (Plannable (grow L q) → ⊥) → r ≡ answered k 4 0
@@ -83,6 +101,7 @@ demand-3 = record {
   held = run-told;
   at-once = at-once;
   in-rows = λ L k run. (flat (L .orders), in-rows L, flat-length (L .orders));
+  plan = λ L k J times old new told run h. defined L k (run-told L k run) J times h old new told;
   one-book = run-one;
   refused = λ L k q r run x sound.
       let o = x .outcome L (run-told L k run) in

@@ -22,6 +22,7 @@ use Rattle.planner.specs.List.{pairs-of, Judged, Judges}
 use Rattle.planner.proofs.Pairs.{no-chain}
 use Rattle.planner.proofs.Step.{size-is}
 use Rattle.demands.specs.Wrong.{Applying, ShutOut}
+use Rattle.demands.proofs.Second.{demand-2}
 use Rattle.demands.proofs.Third.{plan-accepted, list-accepted}
 
 long : (n v : ℕ) → length (replicate n v) ≡ n
@@ -110,4 +111,5 @@ shut-out = record {
       let t = subst (Told k) (one-more 0) (first call app .told) in
       let next = accepted-one 1 k (call k (Job 0 1)) (omega arith) t (app k (Job 0 1) (ones 1, t)) in
       omega (arith, ap (λ (k : Book). k .size) (same k (Job 0 1) (ones 1, t) (omega (arith, size-is _ k t))), size-is _ k t, size-is _ _ (next .told), longer 1);
+  other-finish = λ L k old new told t p other. let shown = demand-2 .plan L k old new told t p in other shown (shown .finishes);
 }

@@ -19,6 +19,8 @@ use Rattle.planner.specs.declared.requests.Request.{Request}
 use Rattle.planner.specs.declared.requests.Request.the-variants.{Before, Earlier}
 use Rattle.planner.specs.Requests.{Plannable, Sound, grow, accepts-with, Applied, answered, Applies, Run}
 use Rattle.planner.specs.List.{list-of, Misshapen, SoundRows, Judged, Judges}
+use Rattle.plan.specs.Plan.{horizon, unplaced, Plans}
+use Rattle.plan.specs.Place.{Places}
 
 -- ---- 1. "Each refusal has a number; the book of jobs is then as it was before the call, and so is every byte of lent memory."
 -- a number of the table (01, Numbers of refusal)
@@ -28,14 +30,32 @@ Numbered n = (1 ≤ n) × (n ≤ 11)
 pub record Demand1 : Type 0 where
   pub request : (k : Book) (q : Request) (r : Applied) → Made k → Applies k q r → 1 ≤ r .number → Numbered (r .number) × (r .book ≡ k)
   pub list : (starts deadlines pairs old : List ℕ) (r : Judged) → Judges starts deadlines pairs old r → 1 ≤ r .number → Numbered (r .number) × (r .row ≡ old)
+  pub plan : (k : Book) (old new : List ℕ) (n v : ℕ) → Plans k old new n v → 1 ≤ n → Numbered n × (new ≡ old)
+  pub place : (k : Book) (job n : ℕ) (values : List ℕ) → Places k job n values → 1 ≤ n → Numbered n
 
--- ---- 2. "It says no plan only if no such schedule exists at all": in whole slots, in units of 1/u of a slot, or by any clock
+-- ---- 2. "A plan it hands out is a valid two-processor schedule .. and the finishing time told is that plan's."
+-- the bytes show a valid plan of the list, in time, that finishes when told
+pub record Shown (L : Listed) (k : Book) (old new : List ℕ) (told : ℕ) : Type 1 where
+  pub slot : ℕ → ℕ
+  pub core : ℕ → ℕ
+  pub valid : Valid cores (jobs-of k) slot
+  pub meets : Meets (jobs-of k) (written L) slot
+  -- "as Garey and Johnson define it": by any clock, each job begins where its slot does
+  pub clocks : (C : Clock) → Clocked C cores (jobs-of k) (λ i. C .begin (slot i)) × ClockedMeets C (jobs-of k) (written L) (λ i. C .begin (slot i))
+  pub finishes : told ≡ finish (jobs-of k) slot
+  -- each job stands in its slot on its core; a core that none has in a slot is idle; bytes beyond the plan stay
+  pub seats : (i : ℕ) → i < k .size → (core i < cores) × (getD new (cores * slot i + core i) 255 ≡ i)
+  pub others : (u c : ℕ) → u < told → c < cores → (getD new (cores * u + c) 0 ≡ 255) ⊎ ((i : ℕ) × (i < k .size) × (slot i ≡ u) × (core i ≡ c))
+  pub rest : drop (cores * told) new ≡ drop (cores * told) old
+
+-- "It says no plan only if no such schedule exists at all": in whole slots, in units of 1/u of a slot, or by any clock
 pub record NoSchedule (L : Listed) : Type 1 where
   pub whole : (J : Jobs) → Reads L J → HasPlan cores J (written L) → ⊥
   pub parts : (J : Jobs) (u : ℕ) → Reads L J → 1 ≤ u → HasTimed cores u J (written L) → ⊥
   pub clocks : (J : Jobs) (C : Clock) → Reads L J → HasClocked C cores J (written L) → ⊥
 
 pub record Demand2 : Type 1 where
+  pub plan : (L : Listed) (k : Book) (old new : List ℕ) (told : ℕ) → Told k L → Plans k old new 0 told → Shown L k old new told
   pub none : (L : Listed) (k : Book) (q : Request) (r : Applied) → Told k L → Applies k q r → r .number ≡ 4 → NoSchedule (grow L q)
   pub none-listed : (starts deadlines pairs old : List ℕ) (r : Judged) → Judges starts deadlines pairs old r → r .number ≡ 4 → NoSchedule (list-of starts deadlines pairs)
 
@@ -48,6 +68,9 @@ pub record Demand3 : Type 0 where
       Judges starts deadlines pairs old r → (r .number ≡ 0) × ((i : ℕ) → i < k .size → getD (r .row) i 0 ≡ latest-of k i)
   -- every remaining list can be so handed in
   pub in-rows : (L : Listed) (k : Book) → Run L k → (pairs : List ℕ) × (list-of (L .starts) (L .deadlines) pairs ≡ L) × (length pairs ≡ 2 * length (L .orders))
+  -- "and the plan": jobs J and latest times that the definition gives for the remaining list have this finishing time and these bytes
+  pub plan : (L : Listed) (k : Book) (J : Jobs) (times : ℕ → ℕ) (old new : List ℕ) (told : ℕ) → Run L k → Holds cores L J times → Plans k old new 0 told →
+      (told ≡ finish J (slots cores J times unplaced horizon)) × (new ≡ bytes J times unplaced told ++ drop (cores * told) old)
   -- one remaining list leaves one book, whatever the run
   pub one-book : (L : Listed) (k b : Book) → Run L k → Run L b → k ≡ b
   -- "A sound request is refused for want of a plan exactly when the list accepted so far, with it added, has none."
