@@ -2,7 +2,7 @@
 -- Assumes nothing.
 use mathlib.Core.Bool.{Bool, true, false}
 use mathlib.Core.List.{List}
-use mathlib.Core.Logic.{inl}
+use mathlib.Core.Logic.{inl, inr}
 use mathlib.Core.Path.{_≡_, refl, sym, ap, _∙_}
 use Prim.Native.Nat.{ℕ, _+_, _≤_, _<_}
 use native.Mathlib.Omega.{arith}
@@ -10,11 +10,13 @@ use lib.Dec.{T}
 use lib.ListN.{length, getD, set, length-set}
 use lib.Seq.{set-getD}
 use Rattle.schedule.specs.Listed.{Listed, with-job, with-order, with-deadline}
+use Rattle.schedule.proofs.Tests.{le-by}
 use Rattle.sets.specs.Sets.{has, With}
 use Rattle.book.specs.Told.{Book, part, held, Told}
 use Rattle.book.proofs.Parts.{part-at, part-in, part-out, held-long, held-size, with-size, with-latest}
 use Rattle.planner.specs.declared.chains.Pending.{Pending}
-use Rattle.planner.specs.Requests.{answered}
+use Rattle.refusal.specs.Table.{Clear}
+use Rattle.planner.specs.Requests.{times-checks, answered}
 use Rattle.planner.specs.Inner.Chains.{nothing, joined-rows}
 use Rattle.planner.specs.Inner.Requests.{Settleable, Settles}
 use Rattle.planner.proofs.Step.{Last, Grows, grows-ready, fits-last, none-last, set-back, size-is, job-grows, deadline-grows}
@@ -50,7 +52,7 @@ module _ (L : Listed) (times before : List ℕ) (t : Told (held times before) L)
   nothing-waits p e = ap (joined-rows before) e ∙ rows-same before (t .shaped .befores)
 
   -- a new job
-  module _ (s d : ℕ) (p : Pending) (e : p ≡ nothing) (n : ℕ) (size : n ≡ k .size) (room : n < 64) (low : s ≤ 4095) (high : d ≤ 4096) where
+  module _ (s d : ℕ) (p : Pending) (e : p ≡ nothing) (n : ℕ) (size : n ≡ k .size) (room : n < 64) (clear : Clear (times-checks 0 s d)) where
     abbrev begun : List ℕ
     begun = set times (1 + n) s
 
@@ -58,7 +60,7 @@ module _ (L : Listed) (times before : List ℕ) (t : Told (held times before) L)
     begun-long = rw (length-set times (1 + n) s) long
 
     job-posed : Grows (with-job L s d) (posed (n + 1) begun before p n d)
-    job-posed = rw (part-in 1 times n s room, part-out 65 times (1 + n) s (inl (omega arith)), nothing-waits p e, size) (job-grows L k t s d (omega arith) low high)
+    job-posed = rw (part-in 1 times n s room, part-out 65 times (1 + n) s (inl (omega arith)), nothing-waits p e, size) (job-grows L k t s d (omega arith) (le-by s 4095 (λ x. clear .0 (inl x))) (le-by d 4096 (λ x. clear .0 (inr x))))
 
     pub job-ready : Settleable (n + 1) begun before p n d
     job-ready = posed-ready (with-job L s d) (n + 1) begun before p n d job-posed begun-long room (nothing-low p e)

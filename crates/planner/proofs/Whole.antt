@@ -18,10 +18,11 @@ use Rattle.book.specs.Told.{jobs-in, row-in}
 use Rattle.refusal.specs.Table.{Checks, Clear, Refuses, Table, refused, passed}
 use Rattle.planner.specs.Requests.{times-checks, plan-check}
 use Rattle.planner.specs.List.{list-of, job-at, order-at, rows-checks, SoundRows, Judged, judged, TurnedDown, Fitted, Judges}
-use Rattle.planner.specs.Inner.List.{First, Numbers, Held, Spells, Settleable, Settles}
+use Rattle.planner.specs.Inner.List.{First, Held, Spells, Settleable, Settles}
 use Rattle.schedule.proofs.Same.{reads-one, plan-one}
 use Rattle.schedule.proofs.Onward.{holds-planned}
 use Rattle.refusal.specs.declared.Answer.{Answer}
+use Rattle.planner.specs.Inner.Times.{Numbers}
 use Rattle.refusal.specs.Says.{Says}
 use Rattle.refusal.proofs.Table.{refuses-not-clear, table-then}
 use Rattle.refusal.proofs.Says.{says-more}

@@ -2,5 +2,6 @@
 pub mod Chains
 pub mod Tighten
 pub mod Rows
+pub mod Times
 pub mod Requests
 pub mod List

@@ -3,6 +3,7 @@ use crate::chains;
 use crate::chains::Pending;
 use crate::rows;
 use crate::tighten;
+use crate::times::fault;
 use refusal::Answer;
 use schedule::JobIndex;
 ghost use mathlib.Core.Bool.{_||_};
@@ -13,7 +14,7 @@ ghost use lib.ListN.{length, getD};
 ghost use Rattle.sets.specs.Sets.{has};
 ghost use Rattle.refusal.specs.Says.{Says};
 ghost use Rattle.planner.specs.List.{Judges, judged, job-at, pair-at};
-ghost use Rattle.planner.specs.Inner.List.{First, Numbers, Held, Spells, Loops, TakesIn, Settleable, Settles};
+ghost use Rattle.planner.specs.Inner.List.{First, Held, Spells, Loops, TakesIn, Settleable, Settles};
 
 // The list judged, and its latest times in the receiving row; a refusal leaves the row as it was.
 pub fn judge(starts: &[u16], deadlines: &[u16], pairs: &[u16], latest: &mut [u16]) -> Answer
@@ -61,22 +62,6 @@ fn unsound_job(starts: &[u16], deadlines: &[u16]) -> JobIndex
         i += 1;
     }
     JobIndex(i)
-}
-
-// The number of a job's fault, and 0 for none.
-fn fault(start: u16, deadline: u16) -> u8
-    ensures { λ r. ⌜ Numbers start deadline r ⌝ }
-{
-    if start > 4095 {
-        return 2;
-    }
-    if deadline > 4096 {
-        return 2;
-    }
-    if deadline <= start {
-        return 3;
-    }
-    0
 }
 
 // The first pair that names a job not held, or the number of pairs.

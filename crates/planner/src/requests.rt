@@ -3,6 +3,7 @@ use crate::chains;
 use crate::chains::Pending;
 use crate::rows;
 use crate::tighten;
+use crate::times::fault;
 use crate::times::wide;
 use book::Before;
 use book::Times;
@@ -42,14 +43,9 @@ fn add_job(times: &mut Times, before: &Before, start: u16, deadline: u16) -> Ans
     if new >= 64 {
         return Answer::Refused(1, 0);
     }
-    if start > 4095 {
-        return Answer::Refused(2, 0);
-    }
-    if deadline > 4096 {
-        return Answer::Refused(2, 0);
-    }
-    if deadline <= start {
-        return Answer::Refused(3, 0);
+    let number = fault(start, deadline);
+    if number != 0 {
+        return Answer::Refused(number, 0);
     }
     times[1 + new] = start;
     if settle(

@@ -5,6 +5,7 @@ mod sink;
 mod tables;
 
 use crate::chains::Pending;
+use crate::times::time_at;
 use crate::times::wide;
 ghost use mathlib.Core.Path.{_≡_};
 ghost use Prim.Native.Nat.{ℕ, _<_, _≤_};
@@ -133,7 +134,7 @@ fn due_below(limit: usize, among: u64, row: &[u16; 64]) -> Due
     while rest != 0 {
         let job = sets::first(rest);
         let i = job.0;
-        let time = wide(row[i]);
+        let time = time_at(row, i);
         if time < limit {
             jobs = sets::with(jobs, job);
             if d < time {

@@ -14,7 +14,6 @@ use Rattle.sets.specs.Sets.{has}
 use Rattle.book.specs.Told.{cores, jobs-in, row-in}
 use Rattle.planner.specs.List.{pairs-of, pair-at, order-at, Judged, judged, TurnedDown}
 use Rattle.refusal.specs.Table.{Checks, check, Clear, Refuses, Table}
-use Rattle.planner.specs.Requests.{times-checks}
 use Rattle.planner.specs.Inner.Chains.{Links}
 use Rattle.planner.specs.Inner.Rows.{Hands}
 
@@ -23,11 +22,6 @@ pub record First (n : ℕ) (at : ℕ → Checks) (r : ℕ) : Type 0 where
   pub within : r ≤ n
   pub before : (j : ℕ) → j < r → Clear (at j)
   pub found : r < n → (m : ℕ) × Refuses (at r) m r
-
--- the number that a job's times earn, and 0 for none
-pub record Numbers (start deadline r : ℕ) : Type 0 where
-  pub none : r ≡ 0 → (place : ℕ) → Clear (times-checks place start deadline)
-  pub some : (r ≡ 0 → ⊥) → (place : ℕ) → Refuses (times-checks place start deadline) r place
 
 -- every pair is of jobs below size
 pub record Held (size : ℕ) (pairs : List ℕ) : Type 0 where

@@ -1,11 +1,12 @@
 -- `planner::requests::add_job` meets its contract.
 -- Assumes nothing.
 use mathlib.Core.Path.{refl}
-use mathlib.Core.Logic.{inl, inr, ⊎-elim}
+use mathlib.Core.Logic.{inl, inr}
 use native.Mathlib.Omega.{arith}
 use borrow.Author.Needs.{needs}
-use Rattle.refusal.specs.Table.{refused}
+use Rattle.refusal.specs.Table.{refused, Clear}
 use Rattle.refusal.proofs.Table.{then-table}
+use Rattle.planner.specs.Requests.{times-checks}
 use Rattle.planner.proofs.Step.{size-is}
 use Rattle.planner.proofs.Posed.{job-ready, job-fits, job-none}
 use Rattle.planner.proofs.requests.add_job.Statement.{statement}
@@ -20,20 +21,18 @@ wide-requires c κs = search needs
 returns : tie.Need-returns
 returns c = (omega arith, λ L t. refused _ _ (inl (inl (omega (arith, size-is L _ t, c .before .wide .ensures .0), refl, refl))) refl)
 
+fault-requires : tie.Need-fault-requires
+fault-requires c κs = search needs
+
 returns-2 : tie.Need-returns-2
-returns-2 c = (omega arith, λ L t. refused _ _ (inl (inr ((λ f. omega (arith, size-is L _ t, c .before .before .wide .ensures .0)), inl (inl (omega arith), refl, refl)))) refl)
-
-returns-3 : tie.Need-returns-3
-returns-3 c = (omega arith, λ L t. refused _ _ (inl (inr ((λ f. omega (arith, size-is L _ t, c .before .before .before .wide .ensures .0)), inl (inr (omega arith), refl, refl)))) refl)
-
-returns-4 : tie.Need-returns-4
-returns-4 c = (
-  omega arith,
-  λ L t. refused _ _ (inl (inr (
-    (λ f. omega (arith, size-is L _ t, c .before .before .before .before .wide .ensures .0)),
-    inr ((λ f. ⊎-elim (λ x. omega arith) (λ x. omega arith) f), (omega arith, refl, refl)),
-  ))) refl,
+returns-2 c = (
+  omega (arith, c .if2 .taken),
+  λ L t. refused _ _ (inl (inr ((λ f. omega (arith, size-is L _ t, c .before .before .before .wide .ensures .0)), c .before .fault .ensures .some (c .if2 .taken) 0))) refl,
 )
+
+-- the job has no fault of its own
+clear : (c : tie.Else2) → let a = c .before .before .before .before .before .args in Clear (times-checks 0 (a .start) (a .deadline))
+clear c = c .before .fault .ensures .none (c .if2 .left) 0
 
 add-times : tie.Need-add-times
 add-times c = search needs
@@ -53,8 +52,8 @@ none-requires c κs = search needs
 settle-requires : tie.Need-settle-requires
 settle-requires c κs =
     let e = c .before .before in
-    let s = e .before .before .before .before .before .before in
-    job-ready (s .pre .0) _ _ (s .pre .1) _ _ _ (c .none .ensures) _ (e .before .before .before .before .wide .ensures .0) (omega arith) (omega arith) (omega arith)
+    let s = e .before .before .before .before .before in
+    job-ready (s .pre .0) _ _ (s .pre .1) _ _ _ (c .none .ensures) _ (e .before .before .before .wide .ensures .0) (omega arith) (clear e)
 
 add-times-2 : tie.Need-add-times-2
 add-times-2 c = search needs
@@ -65,14 +64,14 @@ cast-times c = search needs
 element-write-times-2 : tie.Need-element-write-times-2
 element-write-times-2 c = search needs
 
-returns-5 : tie.Need-returns-5
-returns-5 c =
+returns-3 : tie.Need-returns-3
+returns-3 c =
     λ L t.
     let n = c .before .before in
     let e = n .before .before in
-    let w = e .before .before .before .before .wide .ensures .0 in
-    then-table ((λ f. omega (arith, size-is L _ t, w)), ((λ f. ⊎-elim (λ x. omega arith) (λ x. omega arith) f), λ f. omega arith))
-    (job-fits L _ _ t _ _ _ (n .none .ensures) _ w (omega arith) (omega arith) (omega arith) _ _ (c .before .settle .ensures) (c .if5 .taken))
+    let w = e .before .before .before .wide .ensures .0 in
+    then-table ((λ f. omega (arith, size-is L _ t, w)), clear e)
+    (job-fits L _ _ t _ _ _ (n .none .ensures) _ w (omega arith) (clear e) _ _ (c .before .settle .ensures) (c .if3 .taken))
 
 add-times-3 : tie.Need-add-times-3
 add-times-3 c = search needs
@@ -83,15 +82,15 @@ mul-times-2 c = search needs
 element-write-times-3 : tie.Need-element-write-times-3
 element-write-times-3 c = search needs
 
-returns-6 : tie.Need-returns-6
-returns-6 c = (
+returns-4 : tie.Need-returns-4
+returns-4 c = (
   omega arith,
   λ L t.
       let n = c .before .before in
       let e = n .before .before in
-      let w = e .before .before .before .before .wide .ensures .0 in
-      then-table ((λ f. omega (arith, size-is L _ t, w)), ((λ f. ⊎-elim (λ x. omega arith) (λ x. omega arith) f), λ f. omega arith))
-      (job-none L _ _ t _ _ _ (n .none .ensures) _ w (omega arith) (omega arith) (omega arith) _ _ (c .before .settle .ensures) (c .if5 .left)),
+      let w = e .before .before .before .wide .ensures .0 in
+      then-table ((λ f. omega (arith, size-is L _ t, w)), clear e)
+      (job-none L _ _ t _ _ _ (n .none .ensures) _ w (omega arith) (clear e) _ _ (c .before .settle .ensures) (c .if3 .left)),
 )
 
 pub add-job-spec : {M : Type 1} → statement M
@@ -101,9 +100,8 @@ add-job-spec =
     element-copy-out-wide
     wide-requires
     returns
+    fault-requires
     returns-2
-    returns-3
-    returns-4
     add-times
     mul-times
     element-write-times
@@ -113,8 +111,8 @@ add-job-spec =
     add-times-2
     cast-times
     element-write-times-2
-    returns-5
+    returns-3
     add-times-3
     mul-times-2
     element-write-times-3
-    returns-6)
+    returns-4)

@@ -29,14 +29,8 @@ loop-holds c = gathered-none _ _ _
 first-requires : tie.Need-first-requires Inv-loop μ-loop
 first-requires c κs = search needs
 
-mul-wide : tie.Need-mul-wide Inv-loop μ-loop
-mul-wide c = omega (arith, met c .0)
-
-element-copy-out-wide : tie.Need-element-copy-out-wide Inv-loop μ-loop
-element-copy-out-wide c = omega (arith, met c .0)
-
-wide-requires : tie.Need-wide-requires Inv-loop μ-loop
-wide-requires c κs = search needs
+time-at-requires : tie.Need-time-at-requires Inv-loop μ-loop
+time-at-requires c κs = met c .0
 
 with-requires : tie.Need-with-requires Inv-loop μ-loop
 with-requires c κs = search needs
@@ -46,17 +40,17 @@ rest-requires c κs = search needs
 
 loop-less : tie.Need-loop-less Inv-loop μ-loop
 loop-less c =
-    let f = c .before .before .before .before in
+    let f = c .before .before .before in
     rest-less _ _ _ (f .before .loop-test .taken) (f .first .ensures) (c .rest .ensures)
 
 loop-again : tie.Need-loop-again Inv-loop μ-loop
 loop-again c =
-    let p = c .before .before .before .before .before .before in
-    let f = c .before .before .before .before .first in
-    let m = met (c .before .before .before .before) in
+    let p = c .before .before .before .before .before in
+    let f = c .before .before .before .first in
+    let m = met (c .before .before .before) in
     let r = c .rest .ensures (f .result .0) (f .ensures) in
-    let t = c .before .before .wide .ensures .0 in
-    let small = c .before .before .wide .ensures .1 in
+    let t = c .before .before .time-at .ensures .0 in
+    let small = c .before .before .time-at .ensures .1 in
     ⊎-elim
     (λ w. rw (w .3, w .4) (gathered-more (p .loop .inv) _ _ r (m .1) (omega (arith, t, small)) _ _ (omega (arith, t, w .0 .taken)) (with-in _ _ _ (m .0) (w .1 .ensures)) (omega (arith, w .2 .taken)) (omega (arith, t)) (w .0 .taken)))
     (⊎-elim
@@ -76,9 +70,7 @@ due-below-spec =
     μ-loop
     loop-holds
     first-requires
-    mul-wide
-    element-copy-out-wide
-    wide-requires
+    time-at-requires
     with-requires
     rest-requires
     loop-less

@@ -1,10 +1,10 @@
--- `planner::list::fault` meets its contract.
+-- `planner::times::fault` meets its contract.
 -- Assumes nothing.
 use mathlib.Core.Path.{refl}
 use mathlib.Core.Logic.{inl, inr, ⊎-elim}
 use native.Mathlib.Omega.{arith}
-use Rattle.planner.proofs.list.fault.Statement.{statement}
-use Rattle.planner.proofs.list.fault.Tie as tie
+use Rattle.planner.proofs.times.fault.Statement.{statement}
+use Rattle.planner.proofs.times.fault.Tie as tie
 
 returns : tie.Need-returns
 returns c = record { none = λ e. absurd (omega arith); some = λ f place. inl (inl (omega arith), refl, refl) }
