@@ -11,7 +11,7 @@ use Rattle.book.specs.Told.{Book, latest-of}
 use Rattle.plan.specs.declared.placed.Place.{Place}
 use Rattle.plan.specs.declared.placed.Placed.the-variants.{At}
 use Rattle.plan.specs.Plan.{cores, plan-of, finish-of, bytes-of, Plans}
-use Rattle.plan.specs.Placed.{Sites}
+use Rattle.plan.specs.Placed.{values-of, Sites}
 use Rattle.plan.specs.Place.{core-of, place-of, Places}
 
 module _ (k : Book) (old new : List ℕ) where
@@ -41,5 +41,5 @@ module _ (k : Book) (job : ℕ) where
       (job < k .size) × (p .slot .0 ≡ plan-of k job) × (p .core .0 ≡ core-of k job) × (p .end ≡ plan-of k job + 1) × (p .spare ≡ latest-of k job - (plan-of k job + 1))
   place-told p x =
       let y = places-made _ x in
-      let at : (j : ℕ) → getD (p .slot .0 ∷ p .core .0 ∷ p .end ∷ p .spare ∷ []) j 0 ≡ getD (place-of k job) j 0 = λ j. ap (λ l. getD l j 0) (y .1) in
+      let at : (j : ℕ) → getD (values-of p) j 0 ≡ getD (place-of k job) j 0 = λ j. ap (λ l. getD l j 0) (y .1) in
       (y .0, at 0, at 1, at 2, at 3)
