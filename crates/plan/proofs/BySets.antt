@@ -46,12 +46,12 @@ apart-all n set undone t slot-of late held = same-test (eqb (bitAnd set undone) 
           says j .read (all-each n earlier x j (held j z)) (and-fst (has set j) (has undone j) both),
         ))
 
--- of three tests the second may come first
-second-first : (a b c : Bool) → (a && (b && c)) ≡ ((b && a) && c)
-second-first true true c = refl
-second-first true false c = refl
-second-first false true c = refl
-second-first false false c = refl
+-- of three tests the first two may change places
+swap-first : (a b c : Bool) → (a && (b && c)) ≡ ((b && a) && c)
+swap-first true true c = refl
+swap-first true false c = refl
+swap-first false true c = refl
+swap-first false false c = refl
 
 module _ (size : ℕ) (start latest before : List ℕ) (t left undone : ℕ) (slot-of : ℕ → ℕ)
     (free : (i : ℕ) → i < size → has left i ≡ leb unplaced (slot-of i))
@@ -62,5 +62,5 @@ module _ (size : ℕ) (start latest before : List ℕ) (t left undone : ℕ) (sl
   choice-taken = choose-ext size (row-in latest) (row-in latest) (ready-by start before left undone t) (ready (jobs-in size start before) unplaced t slot-of) size
       (λ i l. refl)
       (λ i l.
-      second-first (has left i) (leb (getD start i 0) t) (eqb (bitAnd (getD before i 0) undone) 0)
+      swap-first (has left i) (leb (getD start i 0) t) (eqb (bitAnd (getD before i 0) undone) 0)
       ∙ ap₂ (λ x y. leb (getD start i 0) t && x && y) (free i l) (apart-all size (getD before i 0) undone t slot-of late held))

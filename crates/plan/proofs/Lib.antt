@@ -8,9 +8,10 @@ pub mod BySets
 pub mod BookPlan
 pub mod OneSlot
 pub mod AllSlots
--- what is handed out: seats, the bytes as written, what they show
+-- what is handed out: seats, the bytes as written
 pub mod Seats
 pub mod WrittenBytes
+-- what an outcome in numbers tells, what the bytes show, and no second outcome
+pub mod Outcomes
 pub mod Shown
--- no second outcome
 pub mod Only

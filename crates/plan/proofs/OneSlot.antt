@@ -152,16 +152,16 @@ module _ (m : ℕ) (J : Jobs) (row : ℕ → ℕ) (t next : ℕ) (early : t < un
       k : ℕ
       k = seat-at m J row u 0
 
-      first : (v : ℕ) → seat-at m J row v 0 ≡ taken J row unplaced v (slots-by m J row v)
-      first v = seat-taken m J row v 0 ∙ ap (taken J row unplaced v) (after-none m J row v)
+      core-0 : (v : ℕ) → seat-at m J row v 0 ≡ taken J row unplaced v (slots-by m J row v)
+      core-0 v = seat-taken m J row v 0 ∙ ap (taken J row unplaced v) (after-none m J row v)
 
       busy : k < J .size → ⊥
       busy held =
-          let r = ready-read J unplaced u (slots-by m J row u) k (rw (first u) (taken-chosen J row unplaced u (slots-by m J row u) .sound (rw (first u) at held))) in
+          let r = ready-read J unplaced u (slots-by m J row u) k (rw (core-0 u) (taken-chosen J row unplaced u (slots-by m J row u) .sound (rw (core-0 u) at held))) in
           omega (
             arith,
             idle,
-            first t,
+            core-0 t,
             taken-chosen J row unplaced t (slots-by m J row t) .below k held (ready-write J unplaced t (slots-by m J row t) k (record {
               begun = le-by (J .start k) t (λ x. omega (arith, w .none k held x, r .begun));
               free = omega (arith, same k held, r .free);
@@ -180,11 +180,11 @@ module _ (m : ℕ) (J : Jobs) (row : ℕ → ℕ) (t next : ℕ) (early : t < un
       ∙ idle-alike m J row u 0 m (omega arith) (still-idle u h (omega arith) same) i hi ∙ ap (λ f. f i) (after-none m J row u) ∙ same i hi)
       u h
 
--- of three tests the last may come second
-last-second : (x y z : Bool) → ((x && y) && z) ≡ ((x && z) && y)
-last-second true true z = sym (and-true z)
-last-second true false z = sym (and-false z)
-last-second false y z = refl
+-- of three tests the last two may change places
+swap-last : (x y z : Bool) → ((x && y) && z) ≡ ((x && z) && y)
+swap-last true true z = sym (and-true z)
+swap-last true false z = sym (and-false z)
+swap-last false y z = refl
 
 -- ---- what the code does in a slot
 module _ (size : ℕ) (start latest before : List ℕ) (slot : List ℕ) (g : Stage) (s : Serving cores size start latest before slot g) where
@@ -228,8 +228,8 @@ module _ (size : ℕ) (start latest before : List ℕ) (slot : List ℕ) (g : St
       choice-taken size start latest before t among left (served c) (k .free)
       (λ i l. s .laid .kept .free i l ∙ late-after cores J row t (s .early) c i l) (s .laid .kept .held) ∙ sym (seat-taken cores J row t c)
 
-  pub first-is : choose size row (ready-by start before left left t) size ≡ job-of 0
-  first-is = job-chosen 0 slot left kept-none
+  pub core-0-is : choose size row (ready-by start before left left t) size ≡ job-of 0
+  core-0-is = job-chosen 0 slot left kept-none
 
   -- both idle, until a job starts
   pub idle-serves : (a next : ℕ) → a ≡ job-of 0 → size ≤ a → Wakes size (row-in start) t next →
@@ -264,15 +264,15 @@ module _ (size : ℕ) (start latest before : List ℕ) (slot : List ℕ) (g : St
   }
 
   module _ (a rest : ℕ) (e : a ≡ job-of 0) (held : a < size) (without : Without left a rest) where
-    kept-first : Kept size (served 1) (set slot a t) rest
-    kept-first = kept-job 0 slot left a rest kept-none e held without
+    kept-core-0 : Kept size (served 1) (set slot a t) rest
+    kept-core-0 = kept-job 0 slot left a rest kept-none e held without
 
-    pub second-is : choose size row (others a (ready-by start before left left t)) size ≡ job-of 1
-    second-is =
+    pub core-1-is : choose size row (others a (ready-by start before left left t)) size ≡ job-of 1
+    core-1-is =
         choose-ext size row row (others a (ready-by start before left left t)) (ready-by start before rest left t) size
         (λ i l. refl)
-        (λ i l. last-second (has left i) (begins (getD start i 0) (getD before i 0) left t) (not (eqb i a)) ∙ ap (λ x. x && begins (getD start i 0) (getD before i 0) left t) (sym (without i)))
-        ∙ job-chosen 1 (set slot a t) rest kept-first
+        (λ i l. swap-last (has left i) (begins (getD start i 0) (getD before i 0) left t) (not (eqb i a)) ∙ ap (λ x. x && begins (getD start i 0) (getD before i 0) left t) (sym (without i)))
+        ∙ job-chosen 1 (set slot a t) rest kept-core-0
 
     module _ (b : ℕ) (f : b ≡ job-of 1) where
       -- a lone job on core 0
@@ -280,7 +280,7 @@ module _ (size : ℕ) (start latest before : List ℕ) (slot : List ℕ) (g : St
       lone-serves h =
           let idle : job-of 1 ≡ size = idle-is cores J row t 1 (omega (arith, f)) in
           next-serves (set slot a t) rest (g .on_core_1)
-          (kept-alike size t (served 1) (set slot a t) rest kept-first (served cores) (idle-alike cores J row t 1 cores (omega arith) idle))
+          (kept-alike size t (served 1) (set slot a t) rest kept-core-0 (served cores) (idle-alike cores J row t 1 cores (omega arith) idle))
           (λ i l. rw (ne-eqb i (job-of 1) (λ q. omega arith)) (sym (or-false (has (g .on_core_1) i))))
 
       -- a job on each core
@@ -288,5 +288,5 @@ module _ (size : ℕ) (start latest before : List ℕ) (slot : List ℕ) (g : St
           Serves cores J row g (set (set slot a t) b t) (record { left = left′; on_core_1 = on-1; next = record { 0 = t + 1 } })
       full-serves left′ on-1 h less more =
           next-serves (set (set slot a t) b t) left′ on-1
-          (kept-job 1 (set slot a t) rest b left′ kept-first f h less)
+          (kept-job 1 (set slot a t) rest b left′ kept-core-0 f h less)
           (λ i l. rw (← f) (with-in (g .on_core_1) b on-1 (omega (arith, s .few)) more i))

@@ -1,6 +1,6 @@
 -- No second outcome meets what the public calls promise; of `span` it is an equation.
 -- Assumes nothing.
-use mathlib.Core.List.{List, [], _∷_}
+use mathlib.Core.List.{List}
 use mathlib.Core.Path.{_≡_, sym, ap, ap₂, _∙_}
 use Prim.Native.Nat.{ℕ}
 use native.Mathlib.Omega.{arith}
@@ -10,11 +10,10 @@ use Rattle.refusal.specs.Says.{Says, number-of, value-of}
 use Rattle.refusal.proofs.Table.{table-one}
 use Rattle.refusal.proofs.Says.{says-told, says-only}
 use Rattle.book.specs.Told.{Book}
-use Rattle.plan.specs.declared.placed.Place.{Place}
 use Rattle.plan.specs.declared.placed.Placed.{Placed}
 use Rattle.plan.specs.declared.placed.Placed.the-variants.{At, Refused}
 use Rattle.plan.specs.Plan.{Plans}
-use Rattle.plan.specs.Placed.{Sites}
+use Rattle.plan.specs.Placed.{values-of, Sites}
 use Rattle.plan.specs.Place.{Places}
 
 -- ---- in numbers
@@ -35,14 +34,11 @@ plan-only k old new new′ r r′ x y = (
   plans-only k old new new′ (number-of r) (value-of r) (number-of r′) (value-of r′) (says-told (Plans k old new) r x) (says-told (Plans k old new′) r′ y) .2,
 )
 
-abbrev values : Place → List ℕ
-values p = p .slot .0 ∷ p .core .0 ∷ p .end ∷ p .spare ∷ []
-
 -- where a promise leaves one number and one row of values, it leaves one case
-sites-only : (P : ℕ → List ℕ → Type 0) → ((n m : ℕ) (v w : List ℕ) → P n v → P m w → (n ≡ m) × (v ≡ w)) → (r s : Placed) → Sites r P → Sites s P → r ≡ s
+pub sites-only : (P : ℕ → List ℕ → Type 0) → ((n m : ℕ) (v w : List ℕ) → P n v → P m w → (n ≡ m) × (v ≡ w)) → (r s : Placed) → Sites r P → Sites s P → r ≡ s
 sites-only P one (At p) (At q) x y =
     let e = one 0 0 _ _ x y .1 in
-    let at : (j : ℕ) → getD (values p) j 0 ≡ getD (values q) j 0 = λ j. ap (λ l. getD l j 0) e in
+    let at : (j : ℕ) → getD (values-of p) j 0 ≡ getD (values-of q) j 0 = λ j. ap (λ l. getD l j 0) e in
     λ i. At (record { slot = record { 0 = at 0 i }; core = record { 0 = at 1 i }; end = at 2 i; spare = at 3 i })
 sites-only P one (At p) (Refused m w) x y = absurd (omega (arith, one 0 m _ _ x (y .1) .0, y .0))
 sites-only P one (Refused n v) (At q) x y = absurd (omega (arith, one n 0 _ _ (x .1) y .0, x .0))

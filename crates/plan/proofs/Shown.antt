@@ -1,6 +1,6 @@
 -- What an accepted call hands out shows the plan of the book, and nothing else.
 -- Assumes nothing.
-use mathlib.Core.List.{List, _++_}
+use mathlib.Core.List.{List}
 use mathlib.Core.Logic.{_⊎_, inl, inr, ⊎-elim}
 use mathlib.Core.Path.{_≡_, refl, sym, ap, _∙_}
 use Prim.Native.Nat.{ℕ, _+_, _*_, _≤_, _<_}
@@ -13,11 +13,11 @@ use Rattle.schedule.specs.Listed.{written}
 use Rattle.schedule.specs.Make.{byte}
 use Rattle.schedule.proofs.Tests.{le-or-lt}
 use Rattle.schedule.proofs.Loop.{bytes-length, bytes-at}
-use Rattle.refusal.proofs.Table.{table-past}
 use Rattle.book.specs.Told.{Book, jobs-of, latest-of, Made}
 use Rattle.plan.specs.Plan.{cores, unplaced, plan-of, finish-of, bytes-of, Plans}
 use Rattle.plan.specs.Place.{core-of}
 use Rattle.plan.proofs.BookPlan.{book-plan, all-placed, finish-fits, deadlines-met}
+use Rattle.plan.proofs.Outcomes.{plans-made}
 use Rattle.plan.proofs.Seats.{seat-of, seat-core, seat-only}
 
 -- ---- a seat as a byte
@@ -58,14 +58,11 @@ module _ (k : Book) (m : Made k) where
         (le-or-lt (k .size) (seat-of k u c));
   }
     where
-      e : _≡_ {A = ℕ × ℕ × List ℕ} (0, n, new) (0, finish-of k, bytes-of k ++ drop (cores * finish-of k) old)
-      e = table-past _ _ _ _ (λ m v eight same. let z = ap (λ r. r .0) same in omega arith) x .1
-
       ends : n ≡ finish-of k
-      ends = ap (λ r. r .1) e
+      ends = plans-made k old new n x .0
 
       at : (z u c : ℕ) → u < finish-of k → c < cores → getD new (cores * u + c) z ≡ byte (jobs-of k) (seat-of k u c)
       at z u c hu hc =
-          ap (λ l. getD l (cores * u + c) z) (ap (λ x. x .2) e)
+          ap (λ l. getD l (cores * u + c) z) (plans-made k old new n x .1)
           ∙ List·getD-append (bytes-of k) (drop (cores * finish-of k) old) z (cores * u + c) (omega (arith, bytes-length (jobs-of k) (latest-of k) unplaced (finish-of k)))
           ∙ bytes-at (jobs-of k) (latest-of k) unplaced (finish-of k) u c z hu hc

@@ -1,7 +1,7 @@
 // The layout of a plan: each job's slot and core, found slot by slot.
 use crate::UNPLACED;
 use crate::choice;
-use crate::times::time_at;
+use crate::times::size_of;
 use book::Before;
 use book::Times;
 use schedule::CoreIndex;
@@ -31,7 +31,7 @@ pub fn lay_out(times: &Times, before: &Before) -> Layout
     requires { ⌜ Made (held (now times) (now before)) ⌝ }
     ensures { λ r. ⌜ Lays (held (now (times .entry)) (now (before .entry))) r ⌝ }
 {
-    let size = time_at(times, 0);
+    let size = size_of(times);
     let start = book::starts(times);
     let latest = book::latest(times);
     let mut slot = [UNPLACED; 64];

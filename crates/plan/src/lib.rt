@@ -10,6 +10,7 @@ use book::Times;
 use refusal::Answer;
 use schedule::JobIndex;
 use schedule::SlotTime;
+use times::size_of;
 use times::time_at;
 ghost use mathlib.Core.Path.{_≡_};
 ghost use Rattle.refusal.specs.Says.{Says};
@@ -42,7 +43,7 @@ pub fn plan(times: &Times, before: &Before, out: &mut [u8]) -> Answer
         return Answer::Refused(8, needed);
     }
     bytes::clear(out, needed);
-    bytes::write(out, time_at(times, 0), &laid.slot, laid.on_core_1);
+    bytes::write(out, size_of(times), &laid.slot, laid.on_core_1);
     Answer::Accepted(finish)
 }
 
@@ -68,16 +69,17 @@ pub fn place(times: &Times, before: &Before, job: JobIndex) -> Placed
     ensures { λ r. ⌜ Sites r (Places (held (now (times .entry)) (now (before .entry))) (job .0)) ⌝ }
 {
     let i = job.0;
-    if i >= time_at(times, 0) {
+    if i >= size_of(times) {
         return Placed::Refused(5, 0);
     }
     let laid = layout::lay_out(times, before);
     let slot = time_at(&laid.slot, i);
-    let latest = time_at(book::latest(times), i);
+    let end = slot + 1;
+    let spare = time_at(book::latest(times), i) - end;
     Placed::At(Place {
         slot: SlotTime(slot),
         core: layout::core_of(laid.on_core_1, job),
-        end: slot + 1,
-        spare: latest - (slot + 1),
+        end: end,
+        spare: spare,
     })
 }

@@ -23,7 +23,7 @@ abbrev laid : tie.After-clear → tie.After-lay-out
 laid q = q .before .before .before
 
 abbrev cleared : tie.After-write-arg2 → tie.After-clear
-cleared a = a .before .before .before .before .before .before .before
+cleared a = a .before .before .before .before .before .before
 
 lay-out-requires : tie.Need-lay-out-requires
 lay-out-requires c κs = c .before .pre
@@ -40,8 +40,8 @@ returns c =
 clear-requires : tie.Need-clear-requires
 clear-requires c κs = search needs
 
-time-at-requires : tie.Need-time-at-requires
-time-at-requires c κs = search needs
+size-of-requires : tie.Need-size-of-requires
+size-of-requires c κs = search needs
 
 write-requires : tie.Need-write-requires
 write-requires c κs =
@@ -49,7 +49,7 @@ write-requires c κs =
     let l = laid q in
     let s = l .before .before in
     plan-writable (book s) (s .pre) (l .lay-out .result) (l .lay-out .ensures) _ (q .clear .last .0)
-    (c .before .before .time-at .ensures .0) (omega (arith, q .clear .kept .0, q .before .before .if1 .left))
+    (c .before .before .size-of .ensures) (omega (arith, q .clear .kept .0, q .before .before .if1 .left))
 
 same-length : tie.Need-same-length
 same-length c = search needs
@@ -62,9 +62,9 @@ returns-2 c =
     let s = l .before .before in
     let r = l .lay-out .result in
     let fits = q .before .before .if1 .left in
-    let size = w .before .before .before .time-at in
+    let size = w .before .before .before .size-of in
     let new = w .write .ensures ∙ ap (seated (r .slot) (r .on_core_1) (size .result)) (q .clear .ensures)
-    ∙ plan-written (book s) (s .pre) r (l .lay-out .ensures) (size .result) (r .finish) (s .args .out .now) (size .ensures .0) (l .lay-out .ensures .ends) fits in
+    ∙ plan-written (book s) (s .pre) r (l .lay-out .ensures) (size .result) (r .finish) (s .args .out .now) (size .ensures) (l .lay-out .ensures .ends) fits in
     passed (λ lt. omega (arith, fits, l .lay-out .ensures .ends)) (λ i. (0, l .lay-out .ensures .ends i, new i))
 
 pub plan-spec : {M : Type 1} → statement M
@@ -75,7 +75,7 @@ plan-spec =
     mul-needed
     returns
     clear-requires
-    time-at-requires
+    size-of-requires
     write-requires
     same-length
     returns-2)

@@ -24,16 +24,16 @@ abbrev μ-loop : tie.MeasureT-loop
 
 -- where the function began, the book lent there, and its size
 abbrev entry : tie.After-below Inv-loop μ-loop → tie.Start Inv-loop μ-loop
-entry b = b .before .before .before .before .before
+entry b = b .before .before .before .before
 
 abbrev book : tie.Start Inv-loop μ-loop → Book
 book s = held (s .args .times .now) (s .args .before .now)
 
-size : (b : tie.After-below Inv-loop μ-loop) → b .before .before .before .time-at .result ≡ book (entry b) .size
-size b = b .before .before .before .time-at .ensures .0
+size : (b : tie.After-below Inv-loop μ-loop) → b .before .before .before .size-of .result ≡ book (entry b) .size
+size b = b .before .before .before .size-of .ensures
 
-time-at-requires : tie.Need-time-at-requires Inv-loop μ-loop
-time-at-requires c κs = search needs
+size-of-requires : tie.Need-size-of-requires Inv-loop μ-loop
+size-of-requires c κs = search needs
 
 starts-requires : tie.Need-starts-requires Inv-loop μ-loop
 starts-requires c κs = search needs
@@ -91,7 +91,7 @@ lay-out-spec =
     (tie.spec
     Inv-loop
     μ-loop
-    time-at-requires
+    size-of-requires
     starts-requires
     latest-requires
     below-requires

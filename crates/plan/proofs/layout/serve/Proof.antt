@@ -5,7 +5,7 @@ use Prim.Native.Nat.{ℕ}
 use borrow.Author.Needs.{needs}
 use Rattle.book.specs.Told.{jobs-in, row-in}
 use Rattle.plan.specs.Plan.{cores, seat-at}
-use Rattle.plan.proofs.OneSlot.{first-is, idle-serves, second-is, lone-serves, full-serves}
+use Rattle.plan.proofs.OneSlot.{core-0-is, idle-serves, core-1-is, lone-serves, full-serves}
 use Rattle.plan.proofs.layout.serve.Statement.{statement}
 use Rattle.plan.proofs.layout.serve.Tie as tie
 
@@ -17,24 +17,24 @@ job-of s = seat-at cores (jobs-in (s .args .size) (s .args .start .now) (s .args
 abbrev start : tie.After-next-jobs → tie.Start
 start p = p .before .before .before .before
 
-first : (p : tie.After-next-jobs) → p .next-jobs .result .best .0 ≡ job-of (start p) 0
-first p =
+core-0 : (p : tie.After-next-jobs) → p .next-jobs .result .best .0 ≡ job-of (start p) 0
+core-0 p =
     let s = start p in
     let a = s .args in
-    p .next-jobs .ensures .best ∙ first-is (a .size) (a .start .now) (a .latest .now) (a .before .now) (a .slot .now) (a .stage) (s .pre)
+    p .next-jobs .ensures .best ∙ core-0-is (a .size) (a .start .now) (a .latest .now) (a .before .now) (a .slot .now) (a .stage) (s .pre)
 
 -- where core 0 has taken its job
 abbrev chose : tie.After-without → tie.After-next-jobs
 chose q = q .before .before .before .before
 
-other : (q : tie.After-without) → chose q .next-jobs .result .next .0 ≡ job-of (start (chose q)) 1
-other q =
+core-1 : (q : tie.After-without) → chose q .next-jobs .result .next .0 ≡ job-of (start (chose q)) 1
+core-1 q =
     let p = chose q in
     let s = start p in
     let a = s .args in
     p .next-jobs .ensures .next
-    ∙ second-is (a .size) (a .start .now) (a .latest .now) (a .before .now) (a .slot .now) (a .stage) (s .pre)
-    (p .next-jobs .result .best .0) (q .without .result) (first p) (q .before .before .before .if1 .left) (q .without .ensures)
+    ∙ core-1-is (a .size) (a .start .now) (a .latest .now) (a .before .now) (a .slot .now) (a .stage) (s .pre)
+    (p .next-jobs .result .best .0) (q .without .result) (core-0 p) (q .before .before .before .if1 .left) (q .without .ensures)
 
 next-jobs-requires : tie.Need-next-jobs-requires
 next-jobs-requires c κs =
@@ -50,7 +50,7 @@ returns c =
     let s = start p in
     let a = s .args in
     idle-serves (a .size) (a .start .now) (a .latest .now) (a .before .now) (a .slot .now) (a .stage) (s .pre)
-    (p .next-jobs .result .best .0) (c .next-start .result .0) (first p) (c .before .if1 .taken) (c .next-start .ensures)
+    (p .next-jobs .result .best .0) (c .next-start .result .0) (core-0 p) (c .before .if1 .taken) (c .next-start .ensures)
 
 cast-slot : tie.Need-cast-slot
 cast-slot c = search needs
@@ -74,8 +74,8 @@ returns-2 c =
     let s = start p in
     let a = s .args in
     lone-serves (a .size) (a .start .now) (a .latest .now) (a .before .now) (a .slot .now) (a .stage) (s .pre)
-    (p .next-jobs .result .best .0) (q .without .result) (first p) (q .before .before .before .if1 .left) (q .without .ensures)
-    (p .next-jobs .result .next .0) (other q) (c .if2 .taken)
+    (p .next-jobs .result .best .0) (q .without .result) (core-0 p) (q .before .before .before .if1 .left) (q .without .ensures)
+    (p .next-jobs .result .next .0) (core-1 q) (c .if2 .taken)
 
 cast-slot-2 : tie.Need-cast-slot-2
 cast-slot-2 c = search needs
@@ -100,8 +100,8 @@ returns-3 c =
     let s = start p in
     let a = s .args in
     full-serves (a .size) (a .start .now) (a .latest .now) (a .before .now) (a .slot .now) (a .stage) (s .pre)
-    (p .next-jobs .result .best .0) (q .without .result) (first p) (q .before .before .before .if1 .left) (q .without .ensures)
-    (p .next-jobs .result .next .0) (other q) (c .before .without2 .result) (c .with .result) (e .if2 .left) (c .before .without2 .ensures) (c .with .ensures)
+    (p .next-jobs .result .best .0) (q .without .result) (core-0 p) (q .before .before .before .if1 .left) (q .without .ensures)
+    (p .next-jobs .result .next .0) (core-1 q) (c .before .without2 .result) (c .with .result) (e .if2 .left) (c .before .without2 .ensures) (c .with .ensures)
 
 pub serve-spec : {M : Type 1} → statement M
 serve-spec =
