@@ -11,7 +11,8 @@ use Rattle.jobfile.specs.declared.reader.Event.{Event}
 use Rattle.jobfile.specs.declared.reader.Event.the-variants as event
 use Rattle.jobfile.specs.Reader.{stops, halts, Tells}
 
-never : (b : Bool) → T b → T (not b) → ⊥
+-- a test and its opposite
+pub never : (b : Bool) → T b → T (not b) → ⊥
 never true x y = y
 never false x y = x
 
@@ -31,6 +32,12 @@ pub tells-more : (P Q : ℕ → ℕ → Type 0) (r : Event) → ((n v : ℕ) →
 tells-more P Q (event.Request a) f x = says-more _ _ a (λ n v y. (y .0, f n v (y .1))) x
 tells-more P Q event.End f x = f 255 0 x
 tells-more P Q (event.Stopped n v) f x = (x .0, f n v (x .1))
+
+-- at the end and at a stop
+pub tells-halted : (P Q : ℕ → ℕ → Type 0) (r : Event) → ((answer : Answer) → r ≡ event.Request answer → ⊥) → ((n v : ℕ) → T (halts n) → P n v → Q n v) → Tells r P → Tells r Q
+tells-halted P Q (event.Request a) other f x = absurd (other a refl)
+tells-halted P Q event.End other f x = f 255 0 tt x
+tells-halted P Q (event.Stopped n v) other f x = (x .0, f n v (stops-halts n (x .0)) (x .1))
 
 -- in numbers
 pub tells-told : (P : ℕ → ℕ → Type 0) (r : Event) → Tells r P → (n : ℕ) × (v : ℕ) × P n v

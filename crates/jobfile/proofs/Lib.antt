@@ -4,3 +4,5 @@
 pub mod Events
 -- one record read: one outcome, its number, what a whole record shows
 pub mod Reading
+-- a whole file: the loop, one outcome
+pub mod Single

@@ -8,6 +8,7 @@ use native.Mathlib.Omega.{arith}
 use lib.Dec.{T}
 use lib.ListN.{length}
 use Rattle.schedule.specs.Listed.{Listed}
+use Rattle.schedule.proofs.Tests.{le-by}
 use Rattle.book.specs.Told.{Book, Made}
 use Rattle.refusal.specs.declared.Answer.{Answer}
 use Rattle.refusal.specs.Says.{Says}
@@ -23,10 +24,10 @@ use Rattle.records.specs.Record.{length-of, Stands}
 use Rattle.records.specs.declared.Found.{Found}
 use Rattle.records.specs.declared.Found.the-variants as found
 use Rattle.records.specs.Find.{Stops, Shows, find-checks, Finds}
-use Rattle.records.proofs.Standing.{stands-one, stands-within}
+use Rattle.records.proofs.Standing.{length-six, stands-one, stands-within}
 use Rattle.jobfile.specs.declared.reader.Event.{Event}
 use Rattle.jobfile.specs.Reader.{Step, step, stops, halts, Tells, asks, Stays, Answers, ReadsRecord}
-use Rattle.jobfile.proofs.Events.{tells-only}
+use Rattle.jobfile.proofs.Events.{never, tells-only}
 
 -- ---- one outcome
 module _ (k : Book) (file : List ℕ) (at : ℕ) (m : Made k) where
@@ -56,6 +57,30 @@ applies-number k q r m x =
     (λ n v a e. subst (λ (i : ℕ). T (not (halts i))) (sym (ap (λ (z : Applied). z .number) e)) (among-each (λ n. T (not (halts n))) (request-checks (m .0) q) n (request-numbers (m .0) q) a))
     (λ g. subst (λ (i : ℕ). T (not (halts i))) (sym (ap (λ (z : Applied). z .number) (g .accepts))) tt)
     (x .outcome (m .0) (m .1))
+
+-- ---- a step by its number
+find-numbers : (file : List ℕ) (at : ℕ) → Each (λ n. T (halts n)) (find-checks file at)
+find-numbers file at = (tt, (tt, (tt, tt)))
+
+module _ (k : Book) (file : List ℕ) (at : ℕ) (r : Step) (x : ReadsRecord k file at r) where
+  -- a request was answered: no check found its fault, and a record stands there
+  pub step-answers : T (not (halts (r .number))) → Clear (find-checks file at) × Answers k file at r
+  step-answers h = table-past (find-checks file at) (Stays k at) (Answers k file at) r
+      (λ n v a e. never (halts n) (among-each (λ n. T (halts n)) (find-checks file at) n (find-numbers file at) a) (subst (λ (i : ℕ). T (not (halts i))) (ap (λ (z : Step). z .number) e) h))
+      (x .outcome)
+
+  -- the end or a stop: the book and the offset stay
+  pub step-stays : Made k → T (halts (r .number)) → (r ≡ step k at (r .number) (r .value)) × Refuses (find-checks file at) (r .number) (r .value)
+  step-stays m h =
+      let y = table-refused (find-checks file at) (Stays k at) (Answers k file at) r (λ a. never (halts (r .number)) h (applies-number k (asks (a .told)) _ m (a .applies))) (x .outcome) in
+      (subst (λ (z : Step). r ≡ step k at (z .number) (z .value)) (sym (y .3)) (y .3), subst (λ (z : Step). Refuses (find-checks file at) (z .number) (z .value)) (sym (y .3)) (y .2))
+
+  -- a record passed is whole, in a file in its limits
+  pub step-within : T (not (halts (r .number))) → (length file ≤ 24576) × (at + 6 ≤ r .at) × (r .at ≤ length file)
+  step-within h =
+      let y = step-answers h in
+      let a = y .1 in
+      (le-by _ _ (y .0 .0), omega (arith, a .moved, length-six (a .told)), omega (arith, a .moved, stands-within file at (a .told) (a .stands)))
 
 -- ---- what is found decides
 module _ (k : Book) (file : List ℕ) (at : ℕ) (m : Made k) where

@@ -1,0 +1,36 @@
+// A whole file read into a book.
+use crate::reader;
+use crate::reader::Event;
+use book::Before;
+use book::Times;
+ghost use Rattle.book.specs.Told.{Made, held};
+ghost use Rattle.jobfile.specs.Reader.{Tells, step};
+ghost use Rattle.jobfile.specs.File.{ReadsFile};
+
+// How far a file was read, and why it ended there.
+pub struct Ended {
+    pub at: usize,
+    pub event: Event,
+}
+
+// Record after record from offset 0; byte i of `answers` gets the number of record i, 0 where it is accepted. No file has more than 4,096 records.
+pub fn read_file(
+    times: &mut Times,
+    before: &mut Before,
+    file: &[u8],
+    answers: &mut [u8; 4096],
+) -> Ended
+    requires { ⌜ Made (held (now times) (now before)) ⌝ }
+    ensures { λ r. ⌜ Tells (r .event) (λ n v. ReadsFile (held (now (times .entry)) (now (before .entry))) (now (file .entry)) (now (answers .entry)) (now (answers .exit)) (step (held (now (times .exit)) (now (before .exit))) (r .at) n v)) ⌝ }
+{
+    let mut at: usize = 0;
+    let mut done: usize = 0;
+    loop {
+        let event = reader::read(times, before, file, &mut at);
+        let Event::Request(answer) = event else {
+            return Ended { at, event };
+        };
+        answers[done] = refusal::number(answer);
+        done += 1;
+    }
+}
