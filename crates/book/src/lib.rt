@@ -4,6 +4,9 @@ ghost use Prim.Native.Nat.{_+_, _≤_};
 ghost use lib.ListN.{length};
 ghost use Rattle.book.specs.Told.{Told, part, held, nothing-listed};
 
+// Two equal cores.
+pub const CORES: usize = 2;
+
 // The number of jobs, 64 starts, 64 latest times.
 pub type Times = [u16; 129];
 

@@ -19,9 +19,9 @@ use Rattle.schedule.proofs.Seats.{slots-stay, slot-seat}
 use Rattle.sets.specs.Sets.{has, Below}
 use Rattle.sets.proofs.Bits.{empty-has, has-some, none-is}
 use Rattle.sets.proofs.Range.{below-in}
-use Rattle.book.specs.Told.{Book, jobs-in, row-in, jobs-of, latest-of}
+use Rattle.book.specs.Told.{Book, jobs-in, row-in, jobs-of, latest-of, cores}
 use Rattle.plan.specs.declared.layout.Stage.{Stage}
-use Rattle.plan.specs.Plan.{cores, horizon, unplaced, slots-by, seat-at, plan-of}
+use Rattle.plan.specs.Plan.{horizon, unplaced, slots-by, seat-at, plan-of}
 use Rattle.plan.specs.Inner.Layout.{Laid, Serving, Late, Serves, Lays}
 
 module _ (m : ℕ) (J : Jobs) (row : ℕ → ℕ) where

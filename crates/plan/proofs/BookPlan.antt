@@ -10,8 +10,8 @@ use Rattle.schedule.proofs.Rows.{greatest-least}
 use Rattle.schedule.proofs.Chains.{reads-closed}
 use Rattle.schedule.proofs.Theorem as theorem
 use Rattle.refusal.proofs.Table.{table-free}
-use Rattle.book.specs.Told.{Book, jobs-of, latest-of, Told, Made}
-use Rattle.plan.specs.Plan.{cores, horizon, unplaced, plan-of, finish-of}
+use Rattle.book.specs.Told.{Book, jobs-of, latest-of, Told, Made, cores}
+use Rattle.plan.specs.Plan.{horizon, unplaced, plan-of, finish-of}
 use Rattle.plan.specs.Always.{AlwaysPlanned}
 
 module _ (k : Book) (m : Made k) where

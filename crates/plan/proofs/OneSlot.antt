@@ -25,9 +25,9 @@ use Rattle.schedule.proofs.Seats.{taken-chosen, taken-free, seat-slot, slot-sea
 use Rattle.sets.specs.Sets.{has, With, Without}
 use Rattle.sets.proofs.Bits.{none-is}
 use Rattle.sets.proofs.Range.{with-in}
-use Rattle.book.specs.Told.{jobs-in, row-in}
+use Rattle.book.specs.Told.{jobs-in, row-in, cores}
 use Rattle.plan.specs.declared.layout.Stage.{Stage}
-use Rattle.plan.specs.Plan.{cores, unplaced, slots-by, seat-at}
+use Rattle.plan.specs.Plan.{unplaced, slots-by, seat-at}
 use Rattle.plan.specs.Inner.Choice.{begins, ready-by, others, Wakes}
 use Rattle.plan.specs.Inner.Layout.{on-core-1, Kept, Serving, Serves}
 use Rattle.plan.proofs.BySets.{choice-taken}

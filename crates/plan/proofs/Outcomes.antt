@@ -7,10 +7,10 @@ use native.Mathlib.Omega.{arith}
 use lib.ListN.{length, getD, drop}
 use Rattle.schedule.proofs.Tests.{lt-by}
 use Rattle.refusal.proofs.Table.{table-past, table-refused}
-use Rattle.book.specs.Told.{Book}
+use Rattle.book.specs.Told.{Book, cores}
 use Rattle.plan.specs.declared.placed.Place.{Place}
 use Rattle.plan.specs.declared.placed.Placed.the-variants.{At}
-use Rattle.plan.specs.Plan.{cores, plan-of, finish-of, bytes-of, Plans}
+use Rattle.plan.specs.Plan.{plan-of, finish-of, bytes-of, Plans}
 use Rattle.plan.specs.Placed.{values-of, Sites}
 use Rattle.plan.specs.Place.{core-of, end-of, spare-of, place-of, Places}
 

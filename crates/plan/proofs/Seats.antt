@@ -7,8 +7,8 @@ use native.Mathlib.Omega.{arith}
 use lib.Dec.{T, eqb, eqb→eq}
 use Rattle.schedule.proofs.Tests.{cond-case, eq→eqb, le-by}
 use Rattle.schedule.proofs.Seats.{seat-slot, seat-once, placed-seat}
-use Rattle.book.specs.Told.{Book, jobs-of, latest-of}
-use Rattle.plan.specs.Plan.{cores, horizon, unplaced, seat-at, plan-of}
+use Rattle.book.specs.Told.{Book, jobs-of, latest-of, cores}
+use Rattle.plan.specs.Plan.{horizon, unplaced, seat-at, plan-of}
 use Rattle.plan.specs.Place.{core-of}
 
 module _ (k : Book) where

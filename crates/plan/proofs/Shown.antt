@@ -13,8 +13,8 @@ use Rattle.schedule.specs.Listed.{written}
 use Rattle.schedule.specs.Make.{byte}
 use Rattle.schedule.proofs.Tests.{le-or-lt}
 use Rattle.schedule.proofs.Loop.{bytes-length, bytes-at}
-use Rattle.book.specs.Told.{Book, jobs-of, latest-of, Made}
-use Rattle.plan.specs.Plan.{cores, unplaced, plan-of, finish-of, bytes-of, Plans}
+use Rattle.book.specs.Told.{Book, jobs-of, latest-of, Made, cores}
+use Rattle.plan.specs.Plan.{unplaced, plan-of, finish-of, bytes-of, Plans}
 use Rattle.plan.specs.Place.{core-of}
 use Rattle.plan.proofs.BookPlan.{book-plan, all-placed, finish-fits, deadlines-met}
 use Rattle.plan.proofs.Outcomes.{plans-made}

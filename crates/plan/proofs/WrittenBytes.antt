@@ -15,9 +15,9 @@ use Rattle.schedule.specs.Make.{byte}
 use Rattle.schedule.proofs.Tests.{test, cond-case, eq→eqb, le-or-lt}
 use Rattle.schedule.proofs.Loop.{bytes-length, bytes-at}
 use Rattle.sets.specs.Sets.{has}
-use Rattle.book.specs.Told.{Book, Made, jobs-of, latest-of}
+use Rattle.book.specs.Told.{Book, Made, jobs-of, latest-of, cores}
 use Rattle.plan.specs.declared.layout.Layout.{Layout}
-use Rattle.plan.specs.Plan.{cores, unplaced, plan-of, finish-of, bytes-of}
+use Rattle.plan.specs.Plan.{unplaced, plan-of, finish-of, bytes-of}
 use Rattle.plan.specs.Place.{core-of}
 use Rattle.plan.specs.Inner.Layout.{core-in, Lays}
 use Rattle.plan.specs.Inner.Bytes.{seated, Writable}

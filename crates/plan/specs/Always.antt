@@ -5,8 +5,8 @@ use mathlib.Core.Path.{_≡_}
 use Prim.Native.Nat.{ℕ, _*_, _≤_}
 use lib.ListN.{length}
 use Rattle.schedule.specs.Plan.{Valid, Meets}
-use Rattle.book.specs.Told.{Book, Made, jobs-of, latest-of}
-use Rattle.plan.specs.Plan.{cores, horizon, plan-of, finish-of, Plans}
+use Rattle.book.specs.Told.{Book, Made, jobs-of, latest-of, cores}
+use Rattle.plan.specs.Plan.{horizon, plan-of, finish-of, Plans}
 
 -- of every book: the plan is valid, meets the latest times and ends by the horizon, and with bytes lent for that many slots it is never refused (01, The plan made: "A book always has a plan")
 pub record AlwaysPlanned : Type 0 where

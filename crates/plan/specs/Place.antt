@@ -6,8 +6,8 @@ use mathlib.Core.Path.{_≡_}
 use Prim.Native.Nat.{ℕ, _+_, _-_, _≤_}
 use lib.Dec.{eqb}
 use Rattle.refusal.specs.Table.{Table, check}
-use Rattle.book.specs.Told.{Book, jobs-of, latest-of}
-use Rattle.plan.specs.Plan.{cores, seat-at, plan-of}
+use Rattle.book.specs.Told.{Book, jobs-of, latest-of, cores}
+use Rattle.plan.specs.Plan.{seat-at, plan-of}
 
 -- core 1 if its seat in the job's slot is the job's, else core 0 (01, The plan made: "its core")
 abbrev pub core-of : Book → ℕ → ℕ

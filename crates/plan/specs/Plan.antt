@@ -8,11 +8,7 @@ use Rattle.schedule.specs.Jobs.{Jobs}
 use Rattle.schedule.specs.Plan.{finish}
 use Rattle.schedule.specs.Make.{slots, seat, bytes}
 use Rattle.refusal.specs.Table.{Table, check}
-use Rattle.book.specs.Told.{Book, jobs-of, latest-of}
-
--- how many cores there are (01, What the planner covers: "two equal cores")
-abbrev pub cores : ℕ
-cores = 2
+use Rattle.book.specs.Told.{Book, cores, jobs-of, latest-of}
 
 -- no plan has a slot from here on, since no latest time is greater (01, Numbers and limits: "A deadline is 1 to 4,096")
 abbrev pub horizon : ℕ

@@ -5,7 +5,7 @@ use mathlib.Core.List.{List, []}
 use Prim.Native.Nat.{ℕ, _-_, _*_}
 use lib.Dec.{leb}
 use lib.ListN.{length, take, drop}
-use Rattle.plan.specs.Plan.{cores}
+use Rattle.book.specs.Told.{cores}
 
 -- (01, The plan made: "from slot a up to but not including b .. the empty part if a > b or 2b is more than the bytes lent")
 abbrev pub span-of : List ℕ → ℕ → ℕ → List ℕ

@@ -1,7 +1,7 @@
 // The bytes of a plan.
-use crate::CORES;
 use crate::layout;
 use crate::times::time_at;
+use book::CORES;
 use schedule::CoreIndex;
 use schedule::JobIndex;
 use schedule::SlotTime;
@@ -9,7 +9,7 @@ ghost use mathlib.Core.List.{_++_};
 ghost use mathlib.Core.Path.{_≡_};
 ghost use Prim.Native.Nat.{_+_, _*_, _≤_, _<_};
 ghost use lib.ListN.{length, drop, replicate, set};
-ghost use Rattle.plan.specs.Plan.{cores};
+ghost use Rattle.book.specs.Told.{cores};
 ghost use Rattle.plan.specs.Inner.Bytes.{seated, Writable};
 
 // Idle cores in the first n bytes.

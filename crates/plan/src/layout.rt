@@ -8,8 +8,7 @@ use schedule::CoreIndex;
 use schedule::JobIndex;
 use schedule::SlotTime;
 ghost use mathlib.Core.Path.{_≡_};
-ghost use Rattle.book.specs.Told.{Made, held, jobs-in, row-in};
-ghost use Rattle.plan.specs.Plan.{cores};
+ghost use Rattle.book.specs.Told.{Made, held, jobs-in, row-in, cores};
 ghost use Rattle.plan.specs.Inner.Layout.{Serving, Serves, Lays, core-in};
 
 // Each job's slot, the jobs on core 1, and the finishing time.

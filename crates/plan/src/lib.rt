@@ -6,6 +6,7 @@ mod placed;
 mod times;
 
 use book::Before;
+use book::CORES;
 use book::Times;
 use refusal::Answer;
 use schedule::JobIndex;
@@ -21,9 +22,6 @@ ghost use Rattle.plan.specs.Placed.{Sites};
 ghost use Rattle.plan.specs.Place.{Places};
 pub use placed::Place;
 pub use placed::Placed;
-
-// Two equal cores.
-const CORES: usize = 2;
 
 // No plan has a slot from here on.
 const HORIZON: usize = 4096;

@@ -1,6 +1,5 @@
 // The planner: what a buoy runs. The layers are private; what is public here are the calls of document 01 that change or judge a list.
 mod chains;
-mod cores;
 mod list;
 mod requests;
 mod rows;

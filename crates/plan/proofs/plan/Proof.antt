@@ -6,8 +6,7 @@ use Prim.Native.Nat.{ℕ, _*_}
 use native.Mathlib.Omega.{arith}
 use borrow.Author.Needs.{needs}
 use Rattle.refusal.specs.Table.{refused, passed}
-use Rattle.book.specs.Told.{Book, held}
-use Rattle.plan.specs.Plan.{cores}
+use Rattle.book.specs.Told.{Book, held, cores}
 use Rattle.plan.specs.Inner.Bytes.{seated}
 use Rattle.plan.proofs.BookPlan.{finish-fits}
 use Rattle.plan.proofs.WrittenBytes.{plan-writable, plan-written}

@@ -3,7 +3,7 @@
 use mathlib.Core.List.{List}
 use Prim.Native.Nat.{ℕ, zero, suc, _+_, _*_, _≤_, _<_}
 use lib.ListN.{length, getD, set}
-use Rattle.plan.specs.Plan.{cores}
+use Rattle.book.specs.Told.{cores}
 use Rattle.plan.specs.Inner.Layout.{core-in}
 
 -- the bytes once the jobs below n have theirs

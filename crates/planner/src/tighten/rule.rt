@@ -1,6 +1,6 @@
 // The rule for one job and one d.
-use crate::cores::CORES;
 use crate::times::wide;
+use book::CORES;
 use schedule::JobIndex;
 ghost use mathlib.Core.Path.{_≡_};
 ghost use Prim.Native.Nat.{ℕ, _<_, _≤_};

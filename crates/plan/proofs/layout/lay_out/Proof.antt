@@ -6,8 +6,8 @@ use Prim.Native.Nat.{_-_, _≤_}
 use native.Mathlib.Omega.{arith}
 use borrow.Author.Needs.{needs}
 use Rattle.sets.specs.Sets.{Below}
-use Rattle.book.specs.Told.{Book, held, jobs-of, latest-of}
-use Rattle.plan.specs.Plan.{cores, horizon}
+use Rattle.book.specs.Told.{Book, held, jobs-of, latest-of, cores}
+use Rattle.plan.specs.Plan.{horizon}
 use Rattle.plan.specs.Inner.Layout.{Laid, Late}
 use Rattle.plan.proofs.BookPlan.{all-placed}
 use Rattle.plan.proofs.AllSlots.{laid-none, slot-left, lays, serving-parts, parts-served}

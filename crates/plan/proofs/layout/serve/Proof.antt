@@ -3,8 +3,8 @@
 use mathlib.Core.Path.{_≡_, _∙_}
 use Prim.Native.Nat.{ℕ}
 use borrow.Author.Needs.{needs}
-use Rattle.book.specs.Told.{jobs-in, row-in}
-use Rattle.plan.specs.Plan.{cores, seat-at}
+use Rattle.book.specs.Told.{jobs-in, row-in, cores}
+use Rattle.plan.specs.Plan.{seat-at}
 use Rattle.plan.proofs.OneSlot.{core-0-is, idle-serves, core-1-is, lone-serves, full-serves}
 use Rattle.plan.proofs.layout.serve.Statement.{statement}
 use Rattle.plan.proofs.layout.serve.Tie as tie

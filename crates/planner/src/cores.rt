@@ -1,2 +1,0 @@
-// The number of cores.
-pub const CORES: usize = 2;
