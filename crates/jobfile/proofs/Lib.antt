@@ -11,3 +11,6 @@ pub mod Bytes
 pub mod Part
 pub mod Length
 pub mod Writing
+-- the records that a book is written as; read back
+pub mod Retold
+pub mod RoundTrip

@@ -2,4 +2,5 @@
 pub mod Reader
 pub mod File
 pub mod Writer
+pub mod RoundTrip
 pub mod Inner
