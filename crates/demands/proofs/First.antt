@@ -1,21 +1,28 @@
 -- Demand 1: a refusal has a number of the table, and leaves the book and lent memory as they were.
 -- Assumes nothing.
-use mathlib.Core.List.{List}
-use mathlib.Core.Path.{_≡_, ap, subst, sym, _∙_}
-use Prim.Native.Nat.{ℕ, _≤_, _<_}
+use mathlib.Core.List.{List, _++_}
+use mathlib.Core.Logic.{_⊎_, inl, inr}
+use mathlib.Core.Path.{_≡_, refl, ap, subst, sym, _∙_}
+use Prim.Native.Nat.{ℕ, _+_, _≤_, _<_}
 use native.Mathlib.Omega.{arith}
 use lib.Dec.{T}
+use lib.ListN.{length, drop}
 use Rattle.schedule.specs.Listed.{Listed}
-use Rattle.refusal.specs.Table.{refused, passed}
-use Rattle.refusal.proofs.Table.{Each, each-map, among-each, table-all}
+use Rattle.refusal.specs.Table.{check, Table, refused, passed}
+use Rattle.refusal.proofs.Table.{Each, each-map, among-each, refuses-each, table-all}
 use Rattle.book.specs.Told.{Book, Made}
 use Rattle.planner.specs.declared.requests.Request.{Request}
-use Rattle.planner.specs.Requests.{sound-checks, request-checks, accepts-with, grow, Applied, Turned, Grown, Applies}
+use Rattle.planner.specs.Requests.{sound-checks, request-checks, accepts-with, grow, Applied, answered, Turned, Grown, Applies}
 use Rattle.planner.specs.List.{list-of, rows-checks, list-checks, Judged, TurnedDown, Fitted, Judges}
 use Rattle.planner.proofs.Outcome.{sound-number, sound-some, sound-few, sound-numbers}
 use Rattle.planner.proofs.ListOutcome.{rows-numbers}
 use Rattle.plan.specs.Plan.{Plans}
 use Rattle.plan.specs.Place.{Places}
+use Rattle.records.specs.declared.Record.{Record}
+use Rattle.records.specs.Record.{length-of, Stands}
+use Rattle.records.specs.Find.{find-checks}
+use Rattle.jobfile.specs.Reader.{Step, asks, Stays, Answers, ReadsRecord}
+use Rattle.jobfile.specs.Writer.{file-of, Put, put, WritesBook}
 use Rattle.demands.specs.Demands.{Numbered, Demand1}
 
 -- ---- every number of the tables
@@ -48,5 +55,29 @@ place : (k : Book) (job n : ℕ) (values : List ℕ) → Places k job n values �
 place k job n values (refused c w x e) h = let number : n ≡ 5 = ap (λ r. r .0) e ∙ x .1 in (omega arith, omega arith)
 place k job n values (passed x e) h = absurd (omega (arith, ap (λ r. r .0) e))
 
+-- the numbers of a read's own checks: 9, the end, 11, 10
+stopped : (file : List ℕ) (at : ℕ) → Each (λ n. (n ≡ 255 → ⊥) → Numbered n) (find-checks file at)
+stopped file at = ((λ f. (omega arith, omega arith)), ((λ f. absurd (f refl)), ((λ f. (omega arith, omega arith)), λ f. (omega arith, omega arith))))
+
+record-read : (k : Book) (file : List ℕ) (at : ℕ) (r : Step) → Made k → ReadsRecord k file at r → 1 ≤ r .number → (r .number ≡ 255 → ⊥) →
+    Numbered (r .number) × (r .book ≡ k) × ((r .at ≡ at) ⊎ ((told : Record) × Stands file at told × (r .at ≡ at + length-of told)))
+record-read k file at r m x h some = go (x .outcome)
+  where
+    go : Table (find-checks file at) (Stays k at) (Answers k file at) r → Numbered (r .number) × (r .book ≡ k) × ((r .at ≡ at) ⊎ ((told : Record) × Stands file at told × (r .at ≡ at + length-of told)))
+    go (refused n v y e) = (
+      subst Numbered (sym (ap (λ (s : Step). s .number) e)) (refuses-each (λ n. (n ≡ 255 → ⊥) → Numbered n) (find-checks file at) n v (stopped file at) y (λ f. some (ap (λ (s : Step). s .number) e ∙ f))),
+      ap (λ (s : Step). s .book) e,
+      inl (ap (λ (s : Step). s .at) e),
+    )
+    go (passed y a) = let z = request k (asks (a .told)) (answered (r .book) (r .number) (r .value)) m (a .applies) h in (z .0, z .1, inr (a .told, a .stands, a .moved))
+
+written : (k : Book) (old new : List ℕ) (n v : ℕ) → WritesBook k old new n v → 1 ≤ n → Numbered n × (new ≡ old)
+written k old new n v x h = go (x .outcome)
+  where
+    go : Table (check 8 (length (file-of k)) (length old < length (file-of k))) (λ number value r. r ≡ put old number value)
+        (λ r. r ≡ put (file-of k ++ drop (length (file-of k)) old) 0 (length (file-of k))) (put new n v) → Numbered n × (new ≡ old)
+    go (refused c w y e) = let number : n ≡ 8 = ap (λ (p : Put). p .number) e ∙ y .1 in ((omega arith, omega arith), ap (λ (p : Put). p .bytes) e)
+    go (passed y e) = absurd (omega (arith, ap (λ (p : Put). p .number) e))
+
 pub demand-1 : Demand1
-demand-1 = record { request = request; list = list; plan = plan; place = place }
+demand-1 = record { request = request; list = list; plan = plan; place = place; record-read = record-read; written = written }

@@ -1,4 +1,4 @@
--- Demand 2: a plan handed out is valid, in time, finishes when told, and shows nothing else; "no plan" only where there is none.
+-- Demand 2: a plan handed out is valid, in time, finishes when told, and shows nothing else; "no plan" only where there is none; a book written and read is the same book.
 -- Assumes nothing.
 use mathlib.Core.List.{List, _++_}
 use mathlib.Core.Logic.{inl, inr, ⊎-elim}
@@ -23,6 +23,7 @@ use Rattle.planner.proofs.ListOutcome.{rows-numbers}
 use Rattle.plan.specs.Plan.{unplaced, plan-of, finish-of, bytes-of, Plans}
 use Rattle.plan.specs.Place.{core-of}
 use Rattle.plan.proofs.Shown.{plan-shown}
+use Rattle.jobfile.proofs.RoundTrip.{round-trip}
 use Rattle.demands.specs.Demands.{Shown, NoSchedule, Demand2}
 
 -- ---- a plan handed out
@@ -74,4 +75,5 @@ demand-2 = record {
   plan = λ L k old new told t. handed L k t old new told;
   none = λ L k q r t x e. no-schedule (grow L q) (refused-none L k q r e (x .outcome L t));
   none-listed = λ starts deadlines pairs old r j e. no-schedule (list-of starts deadlines pairs) (judged-none starts deadlines pairs old r j e);
+  same-book = round-trip;
 }

@@ -1,4 +1,4 @@
--- The customer's three demands, of what the public calls promise: apply (`Applies`), judge (`Judges`), plan (`Plans`), place (`Places`), read (`Reads`) and write (`WritesBook`).
+-- The customer's three demands, of what the public calls promise: apply (`Applies`), judge (`Judges`), plan (`Plans`), place (`Places`), read (`ReadsRecord`) and write (`WritesBook`).
 -- A promise gives the number of an answer, 0 where it is accepted, and its value. That a call ends is what a proved function means.
 -- Assumes nothing.
 use mathlib.Core.List.{List, _++_}
@@ -21,6 +21,11 @@ use Rattle.planner.specs.Requests.{Plannable, Sound, grow, accepts-with, Applie
 use Rattle.planner.specs.List.{list-of, Misshapen, SoundRows, Judged, Judges}
 use Rattle.plan.specs.Plan.{horizon, unplaced, Plans}
 use Rattle.plan.specs.Place.{Places}
+use Rattle.records.specs.declared.Record.{Record}
+use Rattle.records.specs.Record.{length-of, Stands}
+use Rattle.jobfile.specs.Reader.{Step, ReadsRecord}
+use Rattle.jobfile.specs.Writer.{WritesBook}
+use Rattle.jobfile.specs.RoundTrip.{ReadsBack}
 
 -- ---- 1. "Each refusal has a number; the book of jobs is then as it was before the call, and so is every byte of lent memory."
 -- a number of the table (01, Numbers of refusal)
@@ -32,6 +37,10 @@ pub record Demand1 : Type 0 where
   pub list : (starts deadlines pairs old : List ℕ) (r : Judged) → Judges starts deadlines pairs old r → 1 ≤ r .number → Numbered (r .number) × (r .row ≡ old)
   pub plan : (k : Book) (old new : List ℕ) (n v : ℕ) → Plans k old new n v → 1 ≤ n → Numbered n × (new ≡ old)
   pub place : (k : Book) (job n : ℕ) (values : List ℕ) → Places k job n values → 1 ≤ n → Numbered n
+  -- one record read: a refused request moves the offset past its record, a stop leaves it; 255 is the end of the file and no refusal
+  pub record-read : (k : Book) (file : List ℕ) (at : ℕ) (r : Step) → Made k → ReadsRecord k file at r → 1 ≤ r .number → (r .number ≡ 255 → ⊥) →
+      Numbered (r .number) × (r .book ≡ k) × ((r .at ≡ at) ⊎ ((told : Record) × Stands file at told × (r .at ≡ at + length-of told)))
+  pub written : (k : Book) (old new : List ℕ) (n v : ℕ) → WritesBook k old new n v → 1 ≤ n → Numbered n × (new ≡ old)
 
 -- ---- 2. "A plan it hands out is a valid two-processor schedule .. and the finishing time told is that plan's."
 -- the bytes show a valid plan of the list, in time, that finishes when told
@@ -58,6 +67,8 @@ pub record Demand2 : Type 1 where
   pub plan : (L : Listed) (k : Book) (old new : List ℕ) (told : ℕ) → Told k L → Plans k old new 0 told → Shown L k old new told
   pub none : (L : Listed) (k : Book) (q : Request) (r : Applied) → Told k L → Applies k q r → r .number ≡ 4 → NoSchedule (grow L q)
   pub none-listed : (starts deadlines pairs old : List ℕ) (r : Judged) → Judges starts deadlines pairs old r → r .number ≡ 4 → NoSchedule (list-of starts deadlines pairs)
+  -- "A book written to a file and read into an empty book is the same book."
+  pub same-book : (k : Book) → Made k → ReadsBack k
 
 -- ---- 3. "Take any run of new jobs, new orders and earlier deadlines on a book that began empty, and strike out the refused ones": `Run L k`, where L is the remaining list
 pub record Demand3 : Type 0 where

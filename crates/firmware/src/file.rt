@@ -5,6 +5,7 @@ use jobfile::Event;
 ghost use mathlib.Core.Path.{_≡_};
 ghost use Rattle.book.specs.Told.{Made, held};
 ghost use Rattle.jobfile.specs.Reader.{ReadsRecord, step};
+ghost use Rattle.jobfile.specs.Writer.{WritesBook};
 ghost use Rattle.firmware.specs.Inner.File.{event-number, event-value};
 
 #[no_mangle]
@@ -21,6 +22,21 @@ pub extern "C" fn firmware_read(
     let event = jobfile::read(times, before, file, at);
     *answer = value(event);
     number(event)
+}
+
+#[no_mangle]
+pub extern "C" fn firmware_write(
+    times: &Times,
+    before: &Before,
+    out: &mut [u8],
+    answer: &mut usize,
+) -> u8
+    requires { ⌜ Made (held (now times) (now before)) ⌝ }
+    ensures { λ r. ⌜ WritesBook (held (now (times .entry)) (now (before .entry))) (now (out .entry)) (now (out .exit)) r (now (answer .exit)) ⌝ }
+{
+    let told = jobfile::write(times, before, out);
+    *answer = refusal::value(told);
+    refusal::number(told)
 }
 
 // 0 where a request is accepted, 255 at the end of the file, else the number of the refusal.

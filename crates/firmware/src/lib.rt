@@ -5,6 +5,7 @@ mod plans;
 mod requests;
 
 pub use file::firmware_read;
+pub use file::firmware_write;
 pub use list::firmware_class;
 pub use list::firmware_judge;
 pub use plans::firmware_place;
