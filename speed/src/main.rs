@@ -205,7 +205,7 @@ fn request(books: Vec<Both>, asks: Vec<Ask>) -> Pair {
     let plain = move || {
         let (k, books) = theirs();
         let mut book = black_box(&books[k].plain).clone();
-        ask_plain(&mut book, again[k]) + black_box(&book).size
+        ask_plain(&mut book, again[k]) + black_box(&book).size()
     };
     Pair { proved: Box::new(proved), plain: Box::new(plain) }
 }
@@ -238,7 +238,7 @@ fn read(both: &Both) -> Pair {
         while let Some(answer) = book.read(black_box(&other), &mut at) {
             assert!(answer.is_ok());
         }
-        at + book.size
+        at + book.size()
     };
     Pair { proved: Box::new(proved), plain: Box::new(plain) }
 }
@@ -298,20 +298,39 @@ fn median(mut row: Vec<f64>) -> f64 {
     row[row.len() / 2]
 }
 
-fn times(rounds: usize) {
-    println!("| Work | proved, µs | plain Rust, µs | ratio |\n|---|---|---|---|");
-    for case in cases() {
+/// One row of the table: the work, how many calls are timed at once, and nanoseconds a call on either side.
+struct Row {
+    name: String,
+    pair: Pair,
+    calls: usize,
+    ours: Vec<f64>,
+    theirs: Vec<f64>,
+}
+
+impl Row {
+    fn new(case: Case) -> Row {
         let mut pair = (case.make)(LISTS);
         let (first, second) = (timed(&mut pair.proved, LISTS), timed(&mut pair.plain, LISTS));
         assert!(first.1 == second.1, "{}: the two sides answer differently", case.name);
         let calls = ((400_000.0 / second.0) as usize).max(1);
-        let (mut ours, mut theirs) = (vec![], vec![]);
-        for _ in 0..if calls == 1 { rounds.min(11) } else { rounds } {
-            ours.push(timed(&mut pair.proved, calls).0);
-            theirs.push(timed(&mut pair.plain, calls).0);
+        Row { name: case.name, pair, calls, ours: vec![], theirs: vec![] }
+    }
+}
+
+/// Each round goes through all the work: a machine that is shared is faster at one time than at another, and so every
+/// row sees the same times of it, and rows can be held against each other.
+fn times(rounds: usize) {
+    let mut rows: Vec<Row> = cases().into_iter().map(Row::new).collect();
+    for _ in 0..rounds {
+        for row in &mut rows {
+            row.ours.push(timed(&mut row.pair.proved, row.calls).0);
+            row.theirs.push(timed(&mut row.pair.plain, row.calls).0);
         }
-        let (a, b) = (median(ours), median(theirs));
-        println!("| {} | {:.2} | {:.2} | {:.2} |", case.name, a / 1000.0, b / 1000.0, a / b);
+    }
+    println!("| Work | proved, µs | plain Rust, µs | ratio |\n|---|---|---|---|");
+    for row in rows {
+        let (a, b) = (median(row.ours), median(row.theirs));
+        println!("| {} | {:.2} | {:.2} | {:.2} |", row.name, a / 1000.0, b / 1000.0, a / b);
     }
 }
 
