@@ -1,8 +1,10 @@
 // The planner for firmware in C and Rust: numbers and lent memory alone. A book lies in memory as two parts, its times and its sets.
+mod file;
 mod list;
 mod plans;
 mod requests;
 
+pub use file::firmware_read;
 pub use list::firmware_class;
 pub use list::firmware_judge;
 pub use plans::firmware_place;

@@ -2,17 +2,17 @@
 -- Assumes nothing.
 use mathlib.Core.List.{List, [], _∷_, _++_}
 use mathlib.Core.Path.{_≡_, ap, _∙_}
-use Prim.Native.Nat.{ℕ, _+_, _-_, _*_, _≤_, _<_}
+use Prim.Native.Nat.{ℕ, _*_, _≤_, _<_}
 use native.Mathlib.Omega.{arith}
 use lib.ListN.{length, getD, drop}
 use Rattle.schedule.proofs.Tests.{lt-by}
 use Rattle.refusal.proofs.Table.{table-past, table-refused}
-use Rattle.book.specs.Told.{Book, latest-of}
+use Rattle.book.specs.Told.{Book}
 use Rattle.plan.specs.declared.placed.Place.{Place}
 use Rattle.plan.specs.declared.placed.Placed.the-variants.{At}
 use Rattle.plan.specs.Plan.{cores, plan-of, finish-of, bytes-of, Plans}
 use Rattle.plan.specs.Placed.{values-of, Sites}
-use Rattle.plan.specs.Place.{core-of, place-of, Places}
+use Rattle.plan.specs.Place.{core-of, end-of, spare-of, place-of, Places}
 
 module _ (k : Book) (old new : List ℕ) where
   pub plans-made : (v : ℕ) → Plans k old new 0 v → (v ≡ finish-of k) × (new ≡ bytes-of k ++ drop (cores * finish-of k) old)
@@ -38,7 +38,7 @@ module _ (k : Book) (job : ℕ) where
 
   -- a place told, value by value
   pub place-told : (p : Place) → Sites (At p) (Places k job) →
-      (job < k .size) × (p .slot .0 ≡ plan-of k job) × (p .core .0 ≡ core-of k job) × (p .end ≡ plan-of k job + 1) × (p .spare ≡ latest-of k job - (plan-of k job + 1))
+      (job < k .size) × (p .slot .0 ≡ plan-of k job) × (p .core .0 ≡ core-of k job) × (p .end ≡ end-of k job) × (p .spare ≡ spare-of k job)
   place-told p x =
       let y = places-made _ x in
       let at : (j : ℕ) → getD (values-of p) j 0 ≡ getD (place-of k job) j 0 = λ j. ap (λ l. getD l j 0) (y .1) in

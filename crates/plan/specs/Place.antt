@@ -13,9 +13,17 @@ use Rattle.plan.specs.Plan.{cores, seat-at, plan-of}
 abbrev pub core-of : Book → ℕ → ℕ
 core-of k i = cond (eqb (seat-at cores (jobs-of k) (latest-of k) (plan-of k i) 1) i) 1 0
 
--- (01, The plan made: "The place of a job: its slot, its core, its end (slot + 1) and its spare, which is its latest time minus its end")
+-- (01, The plan made: "its end (slot + 1)")
+abbrev pub end-of : Book → ℕ → ℕ
+end-of k i = plan-of k i + 1
+
+-- (01, The plan made: "its spare, which is its latest time minus its end")
+abbrev pub spare-of : Book → ℕ → ℕ
+spare-of k i = latest-of k i - end-of k i
+
+-- (01, The plan made: "The place of a job: its slot, its core, its end (slot + 1) and its spare")
 abbrev pub place-of : Book → ℕ → List ℕ
-place-of k i = plan-of k i ∷ core-of k i ∷ (plan-of k i + 1) ∷ (latest-of k i - (plan-of k i + 1)) ∷ []
+place-of k i = plan-of k i ∷ core-of k i ∷ end-of k i ∷ spare-of k i ∷ []
 
 -- (01, Numbers of refusal: 5; "place 5")
 abbrev pub Places : Book → ℕ → ℕ → List ℕ → Type 0

@@ -6,8 +6,8 @@ use Prim.Native.Nat.{ℕ, _≤_, _<_}
 use native.Mathlib.Decide.{decLe}
 use native.Mathlib.Omega.{arith}
 use lib.ListN.{length}
-use Rattle.refusal.specs.Table.{Clear, One}
-use Rattle.refusal.proofs.Table.{table-one, table-free, table-past}
+use Rattle.refusal.specs.Table.{Clear, Refuses, One}
+use Rattle.refusal.proofs.Table.{table-one, table-free, table-past, table-refused}
 use Rattle.records.specs.declared.Record.{Record}
 use Rattle.records.specs.declared.Found.{Found}
 use Rattle.records.specs.declared.Found.the-variants as found
@@ -36,7 +36,8 @@ module _ (file : List ℕ) (at : ℕ) where
   pub finds-only : One (Finds file at)
   finds-only r s x y = table-one (find-checks file at) Stops (Shows file at) stops-one shows-one r s (x .outcome) (y .outcome)
 
-  stands-clear : (r : Record) → length file ≤ 24576 → Stands file at r → Clear (find-checks file at)
+  -- where a record stands, no check finds its fault
+  pub stands-clear : (r : Record) → length file ≤ 24576 → Stands file at r → Clear (find-checks file at)
   stands-clear r short x =
       let within = stands-within file at r x in
       let six = length-six r in
@@ -55,3 +56,7 @@ module _ (file : List ℕ) (at : ℕ) where
       go : Dec (length file ≤ 24576) → (24576 < length file → ⊥) → length file ≤ 24576
       go (yes h) f = h
       go (no h) f = absurd (f (omega arith))
+
+  -- what is no record was refused, by the first check that found its fault
+  pub finds-stop : (f : Found) → (Shows file at f → ⊥) → Finds file at f → (n : ℕ) × (v : ℕ) × Refuses (find-checks file at) n v × Stops n v f
+  finds-stop f none y = table-refused (find-checks file at) Stops (Shows file at) f none (y .outcome)

@@ -2,8 +2,8 @@
 -- Assumes nothing.
 use mathlib.Core.Bool.{Bool, true, false, cond}
 use mathlib.Core.List.{List}
-use mathlib.Core.Logic.{inl, inr, ⊎-elim}
-use mathlib.Core.Path.{_≡_, refl, sym, _∙_}
+use mathlib.Core.Logic.{⊎-elim}
+use mathlib.Core.Path.{_≡_, refl}
 use Prim.Native.Nat.{ℕ, _+_, _≤_, _<_}
 use native.Mathlib.Omega.{arith}
 use lib.Dec.{eqb}
@@ -14,7 +14,7 @@ use Rattle.records.specs.declared.Record.{Record}
 use Rattle.records.specs.declared.Record.the-variants.{Job, Order, Deadline}
 use Rattle.records.specs.declared.Found.the-variants as found
 use Rattle.records.specs.Record.{JB, OR, TG, word-at}
-use Rattle.records.specs.Find.{Marked, Stops, Shows, mark-check, record-named}
+use Rattle.records.specs.Find.{Stops, Shows, mark-check, record-named}
 use Rattle.records.proofs.Standing.{mark-of, first-of, second-of, stands-by, stands-marked}
 
 -- a record by its own mark and fields

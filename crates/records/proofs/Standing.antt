@@ -89,6 +89,13 @@ module _ (file : List ℕ) (at : ℕ) where
   taken : (n i : ℕ) → i < n → getD (take n (drop at file)) i 0 ≡ getD file (at + i) 0
   taken n i h = getD-take n (drop at file) i 0 h ∙ getD-drop at file i 0
 
+  -- its fields are 16-bit numbers
+  pub stands-fields : (r : Record) → ((i : ℕ) → getD file i 0 < 256) → Stands file at r → (first-of r < 65536) × (second-of r < 65536)
+  unfolding Stands
+  stands-fields r small x =
+      let e = rw (length-six r) at x ∙ bytes-are r in
+      (omega (arith, taken 6 2 (omega arith), small (at + 2), ap (λ l. getD l 2 0) e), omega (arith, taken 6 4 (omega arith), small (at + 4), ap (λ l. getD l 4 0) e))
+
   -- with its mark
   pub stands-mark : (r : Record) → Stands file at r → word-at file at ≡ mark-of r
   unfolding Stands

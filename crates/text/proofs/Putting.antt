@@ -43,9 +43,13 @@ module _ (text : List ℕ) (at : ℕ) (out : List ℕ) (room : at + length text 
   fits : fitting text at out ≡ text
   fits = take-all (length out - at) text (omega arith)
 
-  -- the whole text stands there
+  -- the whole text is stored
+  pub puts-stored : {new : List ℕ} {next : ℕ} → Puts text at out new next → (new ≡ sets out at text) × (next ≡ at + length text)
+  puts-stored p = (p .bytes ∙ ap (sets out at) fits, p .behind ∙ ap (λ l. at + length l) fits)
+
+  -- and stands there
   pub puts-whole : {new : List ℕ} {next : ℕ} → Puts text at out new next → (new ≡ take at out ++ text ++ drop (at + length text) out) × (next ≡ at + length text)
-  puts-whole p = (p .bytes ∙ ap (sets out at) fits ∙ sets-eq text out at room, p .behind ∙ ap (λ l. at + length l) fits)
+  puts-whole p = (puts-stored p .0 ∙ sets-eq text out at room, puts-stored p .1)
 
   pub whole-puts : Puts text at out (sets out at text) (at + length text)
   whole-puts = record { bytes = ap (sets out at) (sym fits); behind = ap (λ l. at + length l) (sym fits) }

@@ -1,8 +1,5 @@
 -- `records::marked_at` meets its contract: three words, named.
 -- Assumes nothing.
-use mathlib.Core.List.{List}
-use mathlib.Core.Path.{_≡_, _∙_}
-use Prim.Native.Nat.{ℕ, _+_}
 use native.Mathlib.Omega.{arith}
 use Rattle.records.proofs.Naming.{named-at}
 use borrow.Author.Needs.{needs}

@@ -1,6 +1,5 @@
 -- `records::named` meets its contract, mark by mark.
 -- Assumes nothing.
-use borrow.Author.Needs.{needs}
 use borrow.Author.Tests.{ne-eqb}
 use Rattle.records.specs.Record.{JB, OR, TG}
 use Rattle.records.proofs.named.Statement.{statement}
