@@ -1,6 +1,6 @@
 //! The proved planner and the same engine in plain Rust, side by side in one run.
 //!
-//!     speed times [ROUNDS]       the table of times: median, and the ratio
+//!     speed times [ROUNDS]       the table of times: the least of so many, and the ratio
 //!     speed cases                the names of the cases, one a line
 //!     speed count CASE SIDE N    one case N times, for a counter of instructions
 //!     speed file KIND            the job file of levels or of the chain
@@ -293,18 +293,13 @@ fn timed(work: &mut dyn FnMut() -> usize, calls: usize) -> (f64, usize) {
     ((now() - begin) as f64 / calls as f64, sum)
 }
 
-fn median(mut row: Vec<f64>) -> f64 {
-    row.sort_by(f64::total_cmp);
-    row[row.len() / 2]
-}
-
-/// One row of the table: the work, how many calls are timed at once, and nanoseconds a call on either side.
+/// One row of the table: the work, how many calls are timed at once, and the least nanoseconds a call on either side.
 struct Row {
     name: String,
     pair: Pair,
     calls: usize,
-    ours: Vec<f64>,
-    theirs: Vec<f64>,
+    ours: f64,
+    theirs: f64,
 }
 
 impl Row {
@@ -313,24 +308,23 @@ impl Row {
         let (first, second) = (timed(&mut pair.proved, LISTS), timed(&mut pair.plain, LISTS));
         assert!(first.1 == second.1, "{}: the two sides answer differently", case.name);
         let calls = ((400_000.0 / second.0) as usize).max(1);
-        Row { name: case.name, pair, calls, ours: vec![], theirs: vec![] }
+        Row { name: case.name, pair, calls, ours: f64::MAX, theirs: f64::MAX }
     }
 }
 
-/// Each round goes through all the work: a machine that is shared is faster at one time than at another, and so every
-/// row sees the same times of it, and rows can be held against each other.
+/// Others on the machine can only add to a time, even to processor time; so the least counts, and each round goes through
+/// all the work, which lets every row find the machine at its quietest.
 fn times(rounds: usize) {
     let mut rows: Vec<Row> = cases().into_iter().map(Row::new).collect();
     for _ in 0..rounds {
         for row in &mut rows {
-            row.ours.push(timed(&mut row.pair.proved, row.calls).0);
-            row.theirs.push(timed(&mut row.pair.plain, row.calls).0);
+            row.ours = row.ours.min(timed(&mut row.pair.proved, row.calls).0);
+            row.theirs = row.theirs.min(timed(&mut row.pair.plain, row.calls).0);
         }
     }
     println!("| Work | proved, µs | plain Rust, µs | ratio |\n|---|---|---|---|");
-    for row in rows {
-        let (a, b) = (median(row.ours), median(row.theirs));
-        println!("| {} | {:.2} | {:.2} | {:.2} |", row.name, a / 1000.0, b / 1000.0, a / b);
+    for Row { name, ours, theirs, .. } in rows {
+        println!("| {name} | {:.2} | {:.2} | {:.2} |", ours / 1000.0, theirs / 1000.0, ours / theirs);
     }
 }
 
