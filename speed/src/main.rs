@@ -79,6 +79,7 @@ fn cases() -> Vec<Case> {
     );
     add("plan near".into(), Box::new(|seeds| plan(books(lists::tight, 64, seeds))));
     add("plan far".into(), Box::new(|seeds| plan(books(lists::far, 64, seeds))));
+    add("place".into(), Box::new(|seeds| place(books(lists::tight, 64, seeds))));
     for (kind, list) in [("levels", lists::levels as fn() -> List), ("chain", lists::chain)] {
         add(format!("read {kind}"), Box::new(move |_| read(&Both::of(&list(), 64))));
         add(format!("write {kind}"), Box::new(move |_| write(&Both::of(&list(), 64))));
@@ -220,6 +221,22 @@ fn plan(books: Vec<Both>) -> Pair {
     let plain = move || {
         let (k, books) = theirs();
         told(black_box(&books[k].plain).plan(&mut other)) + other[5] as usize
+    };
+    Pair { proved: Box::new(proved), plain: Box::new(plain) }
+}
+
+/// The place of a job in the middle of its book.
+fn place(books: Vec<Both>) -> Pair {
+    let (mut ours, mut theirs) = (round(books.clone()), round(books));
+    let proved = move || {
+        let (k, books) = ours();
+        let place = black_box(&books[k].proved).place(planner::JobIndex(30)).unwrap();
+        place.slot.0 + 2 * place.core.0 + 3 * place.end + 5 * place.spare
+    };
+    let plain = move || {
+        let (k, books) = theirs();
+        let [slot, core, end, spare] = black_box(&books[k].plain).place(30).unwrap();
+        slot + 2 * core + 3 * end + 5 * spare
     };
     Pair { proved: Box::new(proved), plain: Box::new(plain) }
 }
