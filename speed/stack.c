@@ -1,4 +1,5 @@
-/* The deepest stack of each exported function: it runs on a painted stack, and what lost its paint was used. */
+/* The deepest stack of each exported function over several books, accepted and refused: it runs on a painted stack, and
+ * what lost its paint was used. */
 #include "../bindings/c/planner.h"
 #include <stdio.h>
 #include <string.h>
@@ -7,11 +8,11 @@
 enum { STACK = 1 << 18, PAINT = 0xa5 };
 static _Alignas(64) unsigned char stack[STACK];
 static ucontext_t home, away;
-static struct planner_book full, nearly, loose, held;
+enum { EMPTY, NEARLY, LOOSE, ORDERED, PACKED, BOOKS }; /* no job; 63; 64; 64 and 40 orders; 64 that fill their slots */
+static struct planner_book books[BOOKS], held;
 static uint8_t plan[PLANNER_PLAN_BYTES], file[PLANNER_FILE_BYTES];
 static uint16_t starts[64], deadlines[64], pairs[126], latest[64];
 static size_t value, at, length;
-
 static uint8_t number;
 
 static void nothing(void) {}
@@ -40,43 +41,56 @@ static size_t used(void (*work)(void)) {
     return STACK - low;
 }
 
-static void tell(const char *name, void (*work)(void), const struct planner_book *book, size_t floor) {
-    held = *book;
-    size_t bytes = used(work) - floor;
-    if (number)
-        printf("%s is refused: %d\n", name, number);
+static void tell(const char *name, void (*work)(void), size_t floor) {
+    size_t deepest = 0;
+    int accepted = 0;
+    for (int i = 0; i < BOOKS; i++) {
+        held = books[i];
+        at = 6 * 64; /* the first order of the file */
+        number = 0;
+        size_t bytes = used(work) - floor;
+        deepest = bytes > deepest ? bytes : deepest;
+        accepted |= number == 0;
+    }
+    if (accepted)
+        printf("| %s | %zu |\n", name, deepest);
     else
-        printf("| %s | %zu |\n", name, bytes);
+        printf("%s is refused on every book\n", name);
+}
+
+/* So many jobs with one deadline. */
+static void fill(struct planner_book *book, uint16_t jobs, uint16_t deadline) {
+    planner_open(book);
+    for (uint16_t i = 0; i < jobs; i++)
+        planner_add_job(book, 0, deadline, &value);
 }
 
 int main(void) {
-    planner_open(&full);
+    fill(&books[EMPTY], 0, 0);
+    fill(&books[NEARLY], 63, 64);
+    fill(&books[LOOSE], 64, 64);
+    fill(&books[ORDERED], 64, 64);
+    fill(&books[PACKED], 64, 32);
+    for (uint16_t i = 0; i < 40; i++)
+        planner_add_order(&books[ORDERED], i, i + 1, &value);
     for (uint16_t i = 0; i < 64; i++) {
-        nearly = full;
-        if (planner_add_job(&full, 0, 64, &value))
-            return 1;
         deadlines[i] = 64;
         if (i > 0)
             pairs[2 * i - 2] = (i - 1) / 2, pairs[2 * i - 1] = i;
     }
-    loose = full;
-    for (uint16_t i = 0; i < 40; i++)
-        if (planner_add_order(&full, i, i + 1, &value))
-            return 1;
-    if (planner_write(&full, file, sizeof file, &length))
+    if (planner_write(&books[ORDERED], file, sizeof file, &length))
         return 1;
-    at = 6 * 64;
     size_t floor = used(nothing);
     printf("| Function | bytes of stack |\n|---|---|\n");
-    tell("open", opened, &full, floor);
-    tell("add_job", job, &nearly, floor);
-    tell("add_order", order, &full, floor);
-    tell("draw_in", drawn, &full, floor);
-    tell("judge", judged, &full, floor);
-    tell("plan", planned, &full, floor);
-    tell("place", placed, &full, floor);
-    tell("read", read_order, &loose, floor);
-    tell("write", written, &full, floor);
-    tell("class", classed, &full, floor);
+    tell("open", opened, floor);
+    tell("add_job", job, floor);
+    tell("add_order", order, floor);
+    tell("draw_in", drawn, floor);
+    tell("judge", judged, floor);
+    tell("plan", planned, floor);
+    tell("place", placed, floor);
+    tell("read", read_order, floor);
+    tell("write", written, floor);
+    tell("class", classed, floor);
     return 0;
 }

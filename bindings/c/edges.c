@@ -12,6 +12,12 @@ static void holds(int fact, int line) {
 }
 #define HOLDS(fact) holds((fact), __LINE__)
 
+/* field by field: a book has bytes between its fields that nobody sets */
+static int same(const struct planner_book *a, const struct planner_book *b) {
+    return a->size == b->size && memcmp(a->start, b->start, sizeof a->start) == 0 &&
+           memcmp(a->latest, b->latest, sizeof a->latest) == 0 && memcmp(a->before, b->before, sizeof a->before) == 0;
+}
+
 int main(void) {
     struct planner_book book, copy;
     struct planner_seat seat = {7, 7, 7, 7};
@@ -40,7 +46,7 @@ int main(void) {
     planner_open(&copy);
     HOLDS(planner_read(&copy, bytes, length, &at, &value) == 0 && value == 0 && at == 6);
     HOLDS(planner_read(&copy, bytes, length, &at, &value) == PLANNER_END && at == 6);
-    HOLDS(memcmp(&book, &copy, sizeof book) == 0);
+    HOLDS(same(&book, &copy));
     at = 0;
     HOLDS(planner_read(&copy, (const uint8_t *)"TG\0\11\0\1", 6, &at, &value) == 5 && at == 6);
     HOLDS(planner_read(&copy, bytes, 5, &at, &value) == 11 && value == 6 && at == 6);

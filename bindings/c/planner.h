@@ -49,47 +49,55 @@ enum {
 enum { PLANNER_NONE = 0, PLANNER_ROOM = 1, PLANNER_REQUEST = 2, PLANNER_PLAN = 3, PLANNER_FORM = 4 };
 
 struct planner_book {
-    size_t size;         /* jobs held, numbered from 0 */
+    uint16_t size;       /* jobs held, numbered from 0 */
     uint16_t start[64];  /* by job; 0 beyond the jobs held */
     uint16_t latest[64]; /* by job: its latest time; 0 beyond */
     uint64_t before[64]; /* by job: bit a is 1 where job a precedes it */
 };
+
+/* The library takes size, start and latest as one row of 129 numbers: they lie one behind the other, or this does not
+ * compile. C99 has no other assertion; a new row of the book is one more line here. */
+typedef char planner_book_is_one_row[
+    offsetof(struct planner_book, size) == 0 &&
+    offsetof(struct planner_book, start) == sizeof(uint16_t[1]) &&
+    offsetof(struct planner_book, latest) == sizeof(uint16_t[65]) &&
+    offsetof(struct planner_book, before) >= sizeof(uint16_t[129]) ? 1 : -1];
 
 /* the place of a job in the plan: end is slot + 1, and spare its latest time minus its end */
 struct planner_seat {
     size_t slot, core, end, spare;
 };
 
-/* What the library exports: a book as its four parts, a row as pointer and length. */
-void firmware_open(size_t *, uint16_t *, uint16_t *, uint64_t *);
-uint8_t firmware_add_job(size_t *, uint16_t *, uint16_t *, uint64_t *, uint16_t, uint16_t, size_t *);
-uint8_t firmware_add_order(size_t *, uint16_t *, uint16_t *, uint64_t *, uint16_t, uint16_t, size_t *);
-uint8_t firmware_draw_in(size_t *, uint16_t *, uint16_t *, uint64_t *, uint16_t, uint16_t, size_t *);
+/* What the library exports: a book as its row of 129 numbers and its 64 sets, a row as pointer and length. */
+void firmware_open(uint16_t *, uint64_t *);
+uint8_t firmware_add_job(uint16_t *, uint64_t *, uint16_t, uint16_t, size_t *);
+uint8_t firmware_add_order(uint16_t *, uint64_t *, uint16_t, uint16_t, size_t *);
+uint8_t firmware_draw_in(uint16_t *, uint64_t *, uint16_t, uint16_t, size_t *);
 uint8_t firmware_judge(const uint16_t *, size_t, const uint16_t *, size_t, const uint16_t *, size_t, uint16_t *, size_t, size_t *);
-uint8_t firmware_plan(size_t, const uint16_t *, const uint16_t *, const uint64_t *, uint8_t *, size_t, size_t *);
-uint8_t firmware_place(size_t, const uint16_t *, const uint16_t *, const uint64_t *, uint16_t, size_t *, size_t *, size_t *, size_t *);
-uint8_t firmware_read(size_t *, uint16_t *, uint16_t *, uint64_t *, const uint8_t *, size_t, size_t *, size_t *);
-uint8_t firmware_write(size_t, const uint16_t *, const uint16_t *, const uint64_t *, uint8_t *, size_t, size_t *);
+uint8_t firmware_plan(const uint16_t *, const uint64_t *, uint8_t *, size_t, size_t *);
+uint8_t firmware_place(const uint16_t *, const uint64_t *, uint16_t, size_t *, size_t *, size_t *, size_t *);
+uint8_t firmware_read(uint16_t *, uint64_t *, const uint8_t *, size_t, size_t *, size_t *);
+uint8_t firmware_write(const uint16_t *, const uint64_t *, uint8_t *, size_t, size_t *);
 uint8_t firmware_class(uint8_t);
 
 /* An empty book, whatever the memory held. It answers nothing. */
 static inline void planner_open(struct planner_book *book) {
-    firmware_open(&book->size, book->start, book->latest, book->before);
+    firmware_open(&book->size, book->before);
 }
 
 /* A new job; *value is its number. Refusals in this order: 1, 2, 3, 4. */
 static inline uint8_t planner_add_job(struct planner_book *book, uint16_t start, uint16_t deadline, size_t *value) {
-    return firmware_add_job(&book->size, book->start, book->latest, book->before, start, deadline, value);
+    return firmware_add_job(&book->size, book->before, start, deadline, value);
 }
 
 /* Job `first` ends before job `second` begins; *value is 0. An order that already follows changes nothing. 5, 6, 4. */
 static inline uint8_t planner_add_order(struct planner_book *book, uint16_t first, uint16_t second, size_t *value) {
-    return firmware_add_order(&book->size, book->start, book->latest, book->before, first, second, value);
+    return firmware_add_order(&book->size, book->before, first, second, value);
 }
 
 /* An earlier deadline; *value is 0. One not below the latest time held changes nothing. 5, 2, 3, 4. */
 static inline uint8_t planner_draw_in(struct planner_book *book, uint16_t job, uint16_t deadline, size_t *value) {
-    return firmware_draw_in(&book->size, book->start, book->latest, book->before, job, deadline, value);
+    return firmware_draw_in(&book->size, book->before, job, deadline, value);
 }
 
 /* A whole list and no book: `pairs` holds first, second, first, second..; `latest` receives the latest times, and its
@@ -106,13 +114,12 @@ static inline uint8_t planner_judge(const uint16_t *starts, size_t starts_length
  * Bytes beyond the plan stay; PLANNER_PLAN_BYTES are always enough. 8. */
 static inline uint8_t planner_plan(const struct planner_book *book, uint8_t *out, size_t length, size_t *value) {
     uint8_t nowhere = 0;
-    return firmware_plan(book->size, book->start, book->latest, book->before, out ? out : &nowhere, length, value);
+    return firmware_plan(&book->size, book->before, out ? out : &nowhere, length, value);
 }
 
 /* The place of a job in the plan, to *seat. There is no value: the one refusal, 5, goes with 0, and leaves *seat. */
 static inline uint8_t planner_place(const struct planner_book *book, uint16_t job, struct planner_seat *seat) {
-    return firmware_place(book->size, book->start, book->latest, book->before, job, &seat->slot, &seat->core,
-                          &seat->end, &seat->spare);
+    return firmware_place(&book->size, book->before, job, &seat->slot, &seat->core, &seat->end, &seat->spare);
 }
 
 /* One record of a job file at offset *at. PLANNER_END where the offset is the length (*value is 0). 9, 11 and 10 stop
@@ -120,14 +127,14 @@ static inline uint8_t planner_place(const struct planner_book *book, uint16_t jo
 static inline uint8_t planner_read(struct planner_book *book, const uint8_t *file, size_t length, size_t *at,
                                    size_t *value) {
     uint8_t none = 0;
-    return firmware_read(&book->size, book->start, book->latest, book->before, file ? file : &none, length, at, value);
+    return firmware_read(&book->size, book->before, file ? file : &none, length, at, value);
 }
 
 /* The book as a job file; *value is the number of bytes written. Bytes beyond them stay; PLANNER_BOOK_BYTES are always
  * enough. 8. */
 static inline uint8_t planner_write(const struct planner_book *book, uint8_t *out, size_t length, size_t *value) {
     uint8_t nowhere = 0;
-    return firmware_write(book->size, book->start, book->latest, book->before, out ? out : &nowhere, length, value);
+    return firmware_write(&book->size, book->before, out ? out : &nowhere, length, value);
 }
 
 /* The class of a number of refusal: PLANNER_NONE (0, and any number that is none), PLANNER_ROOM, .. */

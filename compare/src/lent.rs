@@ -31,9 +31,7 @@ impl<T: Copy + PartialEq> Lent<T> {
 
 /// A book in lent memory, and the place for a value.
 pub struct Held {
-    size: Lent<usize>,
-    start: Lent<u16>,
-    latest: Lent<u16>,
+    times: Lent<u16>,
     before: Lent<u64>,
     value: Lent<usize>,
     pub guard: usize,
@@ -45,20 +43,18 @@ impl Held {
     /// Opened in memory that holds anything.
     pub fn open(guard: usize) -> Held {
         let mut book = Held {
-            size: Lent::new(&[77], 1 << 40, guard),
-            start: Lent::new(&[0xabcd; 64], 0x1111, guard),
-            latest: Lent::new(&[0xdcba; 64], 0x2222, guard),
+            times: Lent::new(&[0xabcd; 129], 0x1111, guard),
             before: Lent::new(&[!0; 64], 0x3333, guard),
             value: Lent::new(&[UNSET], UNSET, guard),
             guard,
         };
-        let (size, start, latest, before) = book.parts();
-        unsafe { raw::firmware_open(size, start, latest, before) }
+        let (times, before) = book.parts();
+        unsafe { raw::firmware_open(times, before) }
         book
     }
 
-    fn parts(&mut self) -> (*mut usize, *mut raw::Times, *mut raw::Times, *mut raw::Sets) {
-        (self.size.lend(), self.start.lend().cast(), self.latest.lend().cast(), self.before.lend().cast())
+    fn parts(&mut self) -> (*mut raw::Times, *mut raw::Before) {
+        (self.times.lend().cast(), self.before.lend().cast())
     }
 
     /// The number and the value that a call left, as an answer.
@@ -69,31 +65,30 @@ impl Held {
     }
 
     pub fn apply(&mut self, request: Request) -> Answer {
-        let (size, start, latest, before) = self.parts();
+        let (times, before) = self.parts();
         let value = self.value.lend();
         let number = unsafe {
             match request {
-                Request::Job(s, d) => raw::firmware_add_job(size, start, latest, before, s, d, value),
-                Request::Before(a, b) => raw::firmware_add_order(size, start, latest, before, a, b, value),
-                Request::Earlier(j, d) => raw::firmware_draw_in(size, start, latest, before, j, d, value),
+                Request::Job(s, d) => raw::firmware_add_job(times, before, s, d, value),
+                Request::Before(a, b) => raw::firmware_add_order(times, before, a, b, value),
+                Request::Earlier(j, d) => raw::firmware_draw_in(times, before, j, d, value),
             }
         };
         self.answer(number)
     }
 
     pub fn plan(&mut self, out: &mut Lent<u8>) -> Answer {
-        let (size, start, latest, before) = self.parts();
+        let (times, before) = self.parts();
         let (length, value) = (out.row().len(), self.value.lend());
-        let number = unsafe { raw::firmware_plan(*size, start, latest, before, out.lend(), length, value) };
+        let number = unsafe { raw::firmware_plan(times, before, out.lend(), length, value) };
         self.answer(number)
     }
 
     pub fn place(&mut self, job: u16) -> Result<[usize; 4], (u8, usize)> {
-        let (size, start, latest, before) = self.parts();
+        let (times, before) = self.parts();
         let mut place = Lent::new(&[UNSET; 4], UNSET, self.guard);
         let at = place.lend();
-        let number =
-            unsafe { raw::firmware_place(*size, start, latest, before, job, at, at.add(1), at.add(2), at.add(3)) };
+        let number = unsafe { raw::firmware_place(times, before, job, at, at.add(1), at.add(2), at.add(3)) };
         let told: [usize; 4] = place.row().try_into().unwrap();
         match number {
             0 if place.kept() => Ok(told),
@@ -103,12 +98,12 @@ impl Held {
     }
 
     pub fn read(&mut self, file: &[u8], at: &mut usize) -> Event {
-        let (size, start, latest, before) = self.parts();
+        let (times, before) = self.parts();
         let file = Lent::new(file, 0x4a, self.guard);
         let mut offset = Lent::new(&[*at], UNSET, self.guard);
         let bytes = file.cells[self.guard..].as_ptr();
         let (length, value) = (file.row().len(), self.value.lend());
-        let number = unsafe { raw::firmware_read(size, start, latest, before, bytes, length, offset.lend(), value) };
+        let number = unsafe { raw::firmware_read(times, before, bytes, length, offset.lend(), value) };
         *at = if offset.kept() { offset.row()[0] } else { UNSET };
         match (number, self.answer(number)) {
             (255, Err((_, 0))) => Event::End,
@@ -118,38 +113,29 @@ impl Held {
     }
 
     pub fn write(&mut self, out: &mut Lent<u8>) -> Answer {
-        let (size, start, latest, before) = self.parts();
+        let (times, before) = self.parts();
         let (length, value) = (out.row().len(), self.value.lend());
-        let number = unsafe { raw::firmware_write(*size, start, latest, before, out.lend(), length, value) };
+        let number = unsafe { raw::firmware_write(times, before, out.lend(), length, value) };
         self.answer(number)
     }
 
     /// Whether the book is the one wanted, with nothing beyond its jobs and its surroundings untouched.
     pub fn is(&self, want: &reference::Book) -> bool {
         let n = want.size();
-        let padded = |row: &[u16]| [row, &vec![0; 64 - n]].concat();
+        let beyond = vec![0; 64 - n];
+        let times = [&[n as u16][..], &want.list.starts, &beyond, &want.latest, &beyond].concat();
         let set = |b: usize| (0..n).filter(|&a| want.precedes[a][b]).fold(0u64, |set, a| set | 1 << a);
         let sets: Vec<u64> = (0..64).map(|b| if b < n { set(b) } else { 0 }).collect();
-        self.size.row() == [n]
-            && self.start.row() == padded(&want.list.starts)
-            && self.latest.row() == padded(&want.latest)
-            && self.before.row() == sets
-            && self.size.kept()
-            && self.start.kept()
-            && self.latest.kept()
-            && self.before.kept()
-            && self.value.kept()
+        let rows = self.times.row() == times && self.before.row() == sets;
+        rows && self.times.kept() && self.before.kept() && self.value.kept()
     }
 
     pub fn text(&self) -> String {
-        let n = self.size.row()[0].min(64);
-        format!(
-            "size {} start {:?} latest {:?} before {:x?}",
-            self.size.row()[0],
-            &self.start.row()[..n],
-            &self.latest.row()[..n],
-            &self.before.row()[..n]
-        )
+        let (size, rows) = self.times.row().split_at(1);
+        let (start, latest) = rows.split_at(64);
+        let n = (size[0] as usize).min(64);
+        let before = &self.before.row()[..n];
+        format!("size {} start {:?} latest {:?} before {before:x?}", size[0], &start[..n], &latest[..n])
     }
 }
 

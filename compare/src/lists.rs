@@ -25,12 +25,10 @@ pub fn whole_list(random: &mut Random, guard: usize, tally: &mut Tally) {
         }
     }
     list.orders = pairs.chunks(2).map(|p| (p[0] as usize, p[1] as usize)).collect();
+    let made = answer.is_ok().then(|| book_of(random, &list, guard, tally));
     if list.size() <= 7 && list.deadlines.iter().all(|&d| d <= 12) {
-        every_layout(&list, answer.is_ok());
+        every_layout(&list, made);
         tally.every_layout += 1;
-    }
-    if answer.is_ok() {
-        book_of(random, &list, guard, tally);
     }
 }
 
@@ -68,19 +66,45 @@ fn spoil(random: &mut Random, list: &mut List, pairs: &mut Vec<u16>) {
     }
 }
 
-/// The verdict, and the plan made, against every layout there is; the two ways to look at a job against each other.
-fn every_layout(list: &List, accepted: bool) {
+/// The verdict, the latest times and the plan made, against every layout there is; the two ways to look at a job against
+/// each other.
+fn every_layout(list: &List, made: Option<(Book, Held)>) {
     let text = || keyed(requests_of(list));
-    let any = reference::any_layout(list);
+    let accepted = made.is_some();
+    let (latest, plan) = made.map_or((vec![], vec![]), |(book, mut held)| (book.latest, slots_made(&mut held, list)));
+    let (mut any, mut met) = (false, false);
+    reference::every_layout(list, &mut |slots| {
+        let in_time = slots.iter().zip(&latest).all(|(&slot, &time)| slot < time);
+        hold(!accepted || in_time, "every layout keeps the latest times", &latest, &slots, &text);
+        any = true;
+        met |= slots == plan;
+    });
     hold(any == accepted, "some layout meets the deadlines", &any, &accepted, &text);
+    hold(met || !accepted, "the plan made is one of the layouts", &"one of them", &plan, &text);
     let precedes = list.precedes();
     let literal = list.settled(&precedes, reference::literal);
     let counted = list.settled(&precedes, reference::counted);
     hold(literal == counted, "the rule by two ways", &literal, &counted, &text);
 }
 
-/// The list as requests, jobs first, which are all accepted; then everything that the book can be asked.
-pub fn book_of(random: &mut Random, list: &List, guard: usize, tally: &mut Tally) {
+/// The slot of each job in the plan that the planner writes, which has each job once and ends with the last.
+fn slots_made(held: &mut Held, list: &List) -> Vec<u16> {
+    let mut out = Lent::new(&[0; 8192], 0x99, held.guard);
+    let finish = held.plan(&mut out).unwrap();
+    let plan = &out.row()[..2 * finish];
+    let slots: Vec<u16> = (0..list.size() as u8).map(|job| slot_in(plan, job)).collect();
+    let end = slots.iter().max().map_or(0, |&last| last as usize + 1);
+    let once = plan.iter().filter(|&&job| job != 255).count() == list.size();
+    hold(once && end == finish, "each job once, to the last", &end, &plan, &|| keyed(requests_of(list)));
+    slots
+}
+
+fn slot_in(plan: &[u8], job: u8) -> u16 {
+    plan.iter().position(|&byte| byte == job).map_or(u16::MAX, |at| at as u16 / 2)
+}
+
+/// The list as requests, jobs first, which are all accepted; then everything that the book can be asked. The two books.
+pub fn book_of(random: &mut Random, list: &List, guard: usize, tally: &mut Tally) -> (Book, Held) {
     let requests = requests_of(list);
     let text = || keyed(requests.iter().copied());
     let mut held = Held::open(guard);
@@ -96,6 +120,7 @@ pub fn book_of(random: &mut Random, list: &List, guard: usize, tally: &mut Tally
     let slots = book.slots();
     hold(reference::meets(list, &book.latest, &slots), "the plan meets the latest times", &slots, &(), &text);
     asked(random, &book, &mut held, tally, &text);
+    (book, held)
 }
 
 /// Plan, places and file of one book, in rows of every length around the one needed; the book stays as it is.

@@ -364,25 +364,24 @@ pub fn class(number: u8) -> u8 {
     }
 }
 
-/// Whether any layout is a valid plan that meets the deadlines, by trying every one.
-pub fn any_layout(list: &List) -> bool {
-    fn rest(list: &List, slots: &mut Vec<u16>) -> bool {
+/// Tries every layout, and shows each that is a valid plan and meets the deadlines, as the slot of each job.
+pub fn every_layout(list: &List, show: &mut dyn FnMut(&[u16])) {
+    fn rest(list: &List, slots: &mut Vec<u16>, show: &mut dyn FnMut(&[u16])) {
         let i = slots.len();
         if i == list.size() {
-            return true;
+            return show(slots);
         }
         for slot in list.starts[i]..list.deadlines[i] {
             let room = slots.iter().filter(|&&s| s == slot).count() < 2;
             slots.push(slot);
             let ordered = |&(a, b): &(usize, usize)| a.max(b) != i || slots[a] < slots[b];
-            if room && list.orders.iter().all(ordered) && rest(list, slots) {
-                return true;
+            if room && list.orders.iter().all(ordered) {
+                rest(list, slots, show);
             }
             slots.pop();
         }
-        false
     }
-    rest(list, &mut vec![])
+    rest(list, &mut vec![], show)
 }
 
 /// Whether a plan is valid and every job ends by its time.

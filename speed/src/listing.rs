@@ -16,7 +16,7 @@ pub fn listing(file: &[u8]) -> String {
     }
     let mut plan = [255; 8192];
     let slots = book.plan(&mut plan).unwrap();
-    writeln!(text, "jobs {} slots {slots}", book.size).unwrap();
+    writeln!(text, "jobs {} slots {slots}", book.size()).unwrap();
     let name = |job: u8| if job == 255 { "-".to_string() } else { job.to_string() };
     let mut ends = [0; 64];
     for slot in 0..slots {
@@ -28,7 +28,7 @@ pub fn listing(file: &[u8]) -> String {
             ends[job as usize] = slot + 1;
         }
     }
-    for job in 0..book.size {
+    for job in 0..book.size() {
         let (start, latest, end) = (book.start[job], book.latest[job], ends[job]);
         writeln!(text, "job {job} start {start} latest {latest} end {end} spare {}", latest as usize - end).unwrap();
     }

@@ -1,6 +1,6 @@
 //! The proved planner and the same engine in plain Rust, side by side in one run.
 //!
-//!     speed times [ROUNDS]       the table of times: median, and the ratio
+//!     speed times [ROUNDS]       the table of times: the least of so many, and the ratio
 //!     speed cases                the names of the cases, one a line
 //!     speed count CASE SIDE N    one case N times, for a counter of instructions
 //!     speed file KIND            the job file of levels or of the chain
@@ -79,6 +79,7 @@ fn cases() -> Vec<Case> {
     );
     add("plan near".into(), Box::new(|seeds| plan(books(lists::tight, 64, seeds))));
     add("plan far".into(), Box::new(|seeds| plan(books(lists::far, 64, seeds))));
+    add("place".into(), Box::new(|seeds| place(books(lists::tight, 64, seeds))));
     for (kind, list) in [("levels", lists::levels as fn() -> List), ("chain", lists::chain)] {
         add(format!("read {kind}"), Box::new(move |_| read(&Both::of(&list(), 64))));
         add(format!("write {kind}"), Box::new(move |_| write(&Both::of(&list(), 64))));
@@ -205,7 +206,7 @@ fn request(books: Vec<Both>, asks: Vec<Ask>) -> Pair {
     let plain = move || {
         let (k, books) = theirs();
         let mut book = black_box(&books[k].plain).clone();
-        ask_plain(&mut book, again[k]) + black_box(&book).size
+        ask_plain(&mut book, again[k]) + black_box(&book).size()
     };
     Pair { proved: Box::new(proved), plain: Box::new(plain) }
 }
@@ -224,6 +225,22 @@ fn plan(books: Vec<Both>) -> Pair {
     Pair { proved: Box::new(proved), plain: Box::new(plain) }
 }
 
+/// The place of a job in the middle of its book.
+fn place(books: Vec<Both>) -> Pair {
+    let (mut ours, mut theirs) = (round(books.clone()), round(books));
+    let proved = move || {
+        let (k, books) = ours();
+        let place = black_box(&books[k].proved).place(planner::JobIndex(30)).unwrap();
+        place.slot.0 + 2 * place.core.0 + 3 * place.end + 5 * place.spare
+    };
+    let plain = move || {
+        let (k, books) = theirs();
+        let [slot, core, end, spare] = black_box(&books[k].plain).place(30).unwrap();
+        slot + 2 * core + 3 * end + 5 * spare
+    };
+    Pair { proved: Box::new(proved), plain: Box::new(plain) }
+}
+
 fn read(both: &Both) -> Pair {
     let (file, other) = (both.file(), both.file());
     let proved = move || {
@@ -238,7 +255,7 @@ fn read(both: &Both) -> Pair {
         while let Some(answer) = book.read(black_box(&other), &mut at) {
             assert!(answer.is_ok());
         }
-        at + book.size
+        at + book.size()
     };
     Pair { proved: Box::new(proved), plain: Box::new(plain) }
 }
@@ -293,25 +310,38 @@ fn timed(work: &mut dyn FnMut() -> usize, calls: usize) -> (f64, usize) {
     ((now() - begin) as f64 / calls as f64, sum)
 }
 
-fn median(mut row: Vec<f64>) -> f64 {
-    row.sort_by(f64::total_cmp);
-    row[row.len() / 2]
+/// One row of the table: the work, how many calls are timed at once, and the least nanoseconds a call on either side.
+struct Row {
+    name: String,
+    pair: Pair,
+    calls: usize,
+    ours: f64,
+    theirs: f64,
 }
 
-fn times(rounds: usize) {
-    println!("| Work | proved, µs | plain Rust, µs | ratio |\n|---|---|---|---|");
-    for case in cases() {
+impl Row {
+    fn new(case: Case) -> Row {
         let mut pair = (case.make)(LISTS);
         let (first, second) = (timed(&mut pair.proved, LISTS), timed(&mut pair.plain, LISTS));
         assert!(first.1 == second.1, "{}: the two sides answer differently", case.name);
         let calls = ((400_000.0 / second.0) as usize).max(1);
-        let (mut ours, mut theirs) = (vec![], vec![]);
-        for _ in 0..if calls == 1 { rounds.min(11) } else { rounds } {
-            ours.push(timed(&mut pair.proved, calls).0);
-            theirs.push(timed(&mut pair.plain, calls).0);
+        Row { name: case.name, pair, calls, ours: f64::MAX, theirs: f64::MAX }
+    }
+}
+
+/// Others on the machine can only add to a time, even to processor time; so the least counts, and each round goes through
+/// all the work, which lets every row find the machine at its quietest.
+fn times(rounds: usize) {
+    let mut rows: Vec<Row> = cases().into_iter().map(Row::new).collect();
+    for _ in 0..rounds {
+        for row in &mut rows {
+            row.ours = row.ours.min(timed(&mut row.pair.proved, row.calls).0);
+            row.theirs = row.theirs.min(timed(&mut row.pair.plain, row.calls).0);
         }
-        let (a, b) = (median(ours), median(theirs));
-        println!("| {} | {:.2} | {:.2} | {:.2} |", case.name, a / 1000.0, b / 1000.0, a / b);
+    }
+    println!("| Work | proved, µs | plain Rust, µs | ratio |\n|---|---|---|---|");
+    for Row { name, ours, theirs, .. } in rows {
+        println!("| {name} | {:.2} | {:.2} | {:.2} |", ours / 1000.0, theirs / 1000.0, ours / theirs);
     }
 }
 

@@ -21,6 +21,7 @@
 pub mod raw;
 
 use core::fmt;
+use core::mem::offset_of;
 
 /// Bytes that are enough for the plan of any book.
 pub const PLAN_BYTES: usize = 8192;
@@ -118,37 +119,54 @@ pub struct Place {
 }
 
 /// A book of jobs. It always has a plan.
+#[repr(C)]
 #[derive(Clone, Debug, PartialEq, Eq)]
 pub struct Book {
-    size: usize,
-    start: raw::Times,
-    latest: raw::Times,
-    before: raw::Sets,
+    size: u16,
+    start: [u16; 64],
+    latest: [u16; 64],
+    before: raw::Before,
 }
+
+// The library takes size, start and latest as one row: they lie one behind the other. A new row is one more line here.
+const _: () = {
+    assert!(offset_of!(Book, size) == 0);
+    assert!(offset_of!(Book, start) == size_of::<[u16; 1]>());
+    assert!(offset_of!(Book, latest) == size_of::<[u16; 65]>());
+    assert!(offset_of!(Book, before) >= size_of::<raw::Times>());
+};
 
 impl Book {
     /// An empty book.
     pub fn open() -> Book {
         let mut book = Book { size: 0, start: [0; 64], latest: [0; 64], before: [0; 64] };
-        unsafe { raw::firmware_open(&mut book.size, &mut book.start, &mut book.latest, &mut book.before) }
+        let (times, before) = book.lend();
+        unsafe { raw::firmware_open(times, before) }
         book
+    }
+
+    /// The two parts that the library takes, to be changed.
+    fn lend(&mut self) -> (*mut raw::Times, *mut raw::Before) {
+        let book = &raw mut *self;
+        (book.cast(), unsafe { &raw mut (*book).before })
+    }
+
+    /// The same, to be read.
+    fn show(&self) -> (*const raw::Times, *const raw::Before) {
+        (core::ptr::from_ref(self).cast(), &self.before)
     }
 
     /// A new job answers its number, the other requests 0. A refused request leaves the book as it was.
     pub fn apply(&mut self, request: Request) -> Result<usize, Refusal> {
-        let Book { size, start, latest, before } = self;
+        let (times, before) = self.lend();
         let mut value = 0;
         let number = unsafe {
             match request {
-                Request::Job { start: begin, deadline } => {
-                    raw::firmware_add_job(size, start, latest, before, begin, deadline, &mut value)
-                }
+                Request::Job { start, deadline } => raw::firmware_add_job(times, before, start, deadline, &mut value),
                 Request::Before { first, second } => {
-                    raw::firmware_add_order(size, start, latest, before, first.0, second.0, &mut value)
+                    raw::firmware_add_order(times, before, first.0, second.0, &mut value)
                 }
-                Request::Earlier { job, deadline } => {
-                    raw::firmware_draw_in(size, start, latest, before, job.0, deadline, &mut value)
-                }
+                Request::Earlier { job, deadline } => raw::firmware_draw_in(times, before, job.0, deadline, &mut value),
             }
         };
         answer(number, value)
@@ -171,39 +189,25 @@ impl Book {
 
     /// Two bytes a slot, core 0 first, [`IDLE`] for an idle core; answers the finishing time. Bytes beyond the plan stay. 8.
     pub fn plan(&self, out: &mut [u8]) -> Result<usize, Refusal> {
+        let (times, before) = self.show();
         let mut value = 0;
-        let (bytes, length) = (out.as_mut_ptr(), out.len());
-        let number = unsafe {
-            raw::firmware_plan(self.size, &self.start, &self.latest, &self.before, bytes, length, &mut value)
-        };
+        let number = unsafe { raw::firmware_plan(times, before, out.as_mut_ptr(), out.len(), &mut value) };
         answer(number, value)
     }
 
     /// The place of a job. 5.
     pub fn place(&self, job: JobIndex) -> Result<Place, Refusal> {
+        let (times, before) = self.show();
         let (mut slot, mut core, mut end, mut spare) = (0, 0, 0, 0);
-        let number = unsafe {
-            raw::firmware_place(
-                self.size,
-                &self.start,
-                &self.latest,
-                &self.before,
-                job.0,
-                &mut slot,
-                &mut core,
-                &mut end,
-                &mut spare,
-            )
-        };
+        let number = unsafe { raw::firmware_place(times, before, job.0, &mut slot, &mut core, &mut end, &mut spare) };
         answer(number, 0).map(|_| Place { slot: SlotTime(slot), core: CoreIndex(core), end, spare })
     }
 
     /// One record of a job file at an offset, which moves by six unless it is the end or a stop (9, 11, 10).
     pub fn read(&mut self, file: &[u8], at: &mut usize) -> Event {
-        let Book { size, start, latest, before } = self;
+        let (times, before) = self.lend();
         let mut value = 0;
-        let number =
-            unsafe { raw::firmware_read(size, start, latest, before, file.as_ptr(), file.len(), at, &mut value) };
+        let number = unsafe { raw::firmware_read(times, before, file.as_ptr(), file.len(), at, &mut value) };
         match number {
             255 => Event::End,
             9..=11 => Event::Stopped(Refusal { number, value }),
@@ -213,32 +217,30 @@ impl Book {
 
     /// The book as a job file; answers the number of bytes written. Bytes beyond them stay. 8.
     pub fn write(&self, out: &mut [u8]) -> Result<usize, Refusal> {
+        let (times, before) = self.show();
         let mut value = 0;
-        let (bytes, length) = (out.as_mut_ptr(), out.len());
-        let number = unsafe {
-            raw::firmware_write(self.size, &self.start, &self.latest, &self.before, bytes, length, &mut value)
-        };
+        let number = unsafe { raw::firmware_write(times, before, out.as_mut_ptr(), out.len(), &mut value) };
         answer(number, value)
     }
 
     /// How many jobs are held.
     pub fn size(&self) -> usize {
-        self.size
+        self.size as usize
     }
 
     /// The start of a job held.
     pub fn start(&self, job: JobIndex) -> Option<u16> {
-        self.start[..self.size].get(job.0 as usize).copied()
+        self.start[..self.size()].get(job.0 as usize).copied()
     }
 
     /// The latest time of a job held.
     pub fn latest(&self, job: JobIndex) -> Option<u16> {
-        self.latest[..self.size].get(job.0 as usize).copied()
+        self.latest[..self.size()].get(job.0 as usize).copied()
     }
 
     /// Whether a chain of orders leads from one job to the other.
     pub fn precedes(&self, first: JobIndex, second: JobIndex) -> bool {
-        let row = self.before[..self.size].get(second.0 as usize).copied().unwrap_or(0);
+        let row = self.before[..self.size()].get(second.0 as usize).copied().unwrap_or(0);
         row.checked_shr(first.0 as u32).unwrap_or(0) % 2 == 1
     }
 }
