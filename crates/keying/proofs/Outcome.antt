@@ -6,7 +6,7 @@ use mathlib.Core.Path.{_≡_, refl, sym, ap, _∙_}
 use Prim.Native.Nat.{ℕ, _+_, _≤_}
 use native.Mathlib.Omega.{arith}
 use lib.Dec.{eqb}
-use lib.ListN.{length, drop}
+use lib.ListN.{length, drop, length-append}
 use lib.Seq.{sets, sets-eq}
 use Rattle.keying.specs.Slip.{slip-number}
 use Rattle.keying.specs.Text.{mistake, Meaning, meaning}
@@ -66,5 +66,7 @@ pub keys-only : (text out : List ℕ) (r s : Keyed) (a b : List ℕ) → Keys te
 keys-only text out r s a b p q = (answers-one (meaning text) r s (p .answer) (q .answer), p .bytes ∙ sym (q .bytes))
 
 -- what is written lies within the bytes lent
-pub written-within : (text out : List ℕ) (n : ℕ) (after : List ℕ) → Keys text out (keyed.Written n) after → n ≤ 24576
-written-within text out n after k = omega (arith, k .answer .1, meaning-few text)
+pub written-within : (text out : List ℕ) (n : ℕ) (after : List ℕ) → Keys text out (keyed.Written n) after → n ≤ length after
+written-within text out n after k =
+    let file = meaning text .file in
+    omega (arith, ap length (k .bytes ∙ ap (λ e. left e file out) (k .answer .0)), length-append file (drop (length file) out), k .answer .1)

@@ -8,7 +8,7 @@ use Prim.Native.Nat.{ℕ, _+_, _*_, _≤_, _<_}
 use native.Mathlib.Omega.{arith}
 use lib.Dec.{eqb}
 use lib.ListN.{length, getD, length-append}
-use lib.Seq.{sets}
+use lib.Seq.{sets, length-sets}
 use borrow.Author.Tests.{ne-eqb}
 use Rattle.refusal.specs.declared.Answer.{Answer}
 use Rattle.refusal.specs.declared.Answer.the-variants.{Accepted, Refused}
@@ -67,6 +67,7 @@ pub record Passed (file : List ℕ) (writing : Bool) (old : List ℕ) (at : ℕ)
   pub onward : (rest : List ℕ) (n v : ℕ) → Told file at rest n v → Told file 0 (done ++ rest) n v
   pub inside : at ≤ length file
   pub short : 2 * length done ≤ 5 * at
+  pub within : length done ≤ 61440
   pub place : to ≡ cond writing (length done) 0
   pub bytes : new ≡ cond writing (sets old 0 done) old
 
@@ -74,7 +75,7 @@ pub passed-length : {file old new : List ℕ} {writing : Bool} {at to : ℕ} →
 passed-length {file} {old} {new} {writing} p = stored-length writing (p .done) old new (p .bytes)
 
 pub passed-start : (file : List ℕ) (writing : Bool) (old : List ℕ) → Passed file writing old 0 0 old
-passed-start file writing old = record { done = []; onward = λ rest n v t. t; inside = omega arith; short = omega arith; place = none writing; bytes = stored-none writing old }
+passed-start file writing old = record { done = []; onward = λ rest n v t. t; inside = omega arith; short = omega arith; within = omega arith; place = none writing; bytes = stored-none writing old }
   where
     none : (t : Bool) → _≡_ {A = ℕ} 0 (cond t 0 0)
     none true = refl
@@ -96,6 +97,7 @@ module _ (file : List ℕ) (small : (i : ℕ) → getD file i 0 < 256) (old : Li
         onward = goes false p r f;
         inside = stands-within file at r (x .1);
         short = simp length-append (omega (arith, p .short, length-six r, line-short r (l .0) (l .1)));
+        within = simp length-append (omega (arith, p .short, length-six r, line-short r (l .0) (l .1), x .0, stands-within file at r (x .1)));
         place = p .place;
         bytes = p .bytes;
       }
@@ -114,6 +116,7 @@ module _ (file : List ℕ) (small : (i : ℕ) → getD file i 0 < 256) (old : Li
         onward = goes true p r f;
         inside = within;
         short = simp length-append (omega (arith, p .short, length-six r));
+        within = simp length-append (omega (arith, p .short, length-six r, x .0));
         place = put .1 ∙ simp length-append (omega (arith, p .place));
         bytes = put .0 ∙ ap₂ (λ b i. sets b i (line-of r)) (p .bytes) zero ∙ sets-append (p .done) (line-of r) old 0;
       }
@@ -143,6 +146,7 @@ module _ (file old new : List ℕ) (writing : Bool) (at to : ℕ) (p : Passed fi
         number = 255;
         value = 0;
         told = subst (λ m. Told file 0 (p .done) m 0) (sym (s .3 .0)) (subst (Told file 0 (p .done) (s .0)) (sym (s .3 .1)) (told-here (s .0) (s .1) (s .2)));
+        within = p .within;
         answer = (refl, p .place);
         bytes = p .bytes;
       }
@@ -156,18 +160,19 @@ module _ (file old new : List ℕ) (writing : Bool) (at to : ℕ) (p : Passed fi
         number = n;
         value = v;
         told = here;
+        within = p .within;
         answer = (told-number here, (simp (ne-eqb n 255 (s .3 .0)), simp (ne-eqb n 255 (s .3 .0))));
         bytes = p .bytes;
       }
 
 -- ---- from the two walks
-module _ (file old mid new : List ℕ) where
+module _ (file old mid new : List ℕ) (room : 61440 ≤ length old) where
   pub lines-stop : (n v : ℕ) → Prints file false old (Refused n v) new → Lines file old (Refused n v) new
   lines-stop n v p = go (eqb (p .number) 255) refl (p .answer .1 .0) (p .answer .1 .1)
     where
       go : (t : Bool) → eqb (p .number) 255 ≡ t → n ≡ cond t 0 (p .number) → v ≡ cond t 0 (p .value) → Lines file old (Refused n v) new
       go true e f g = absurd (omega (arith, f, p .answer .0))
-      go false e f g = record { text = p .text; number = p .number; value = p .value; told = p .told; answer = (p .answer .0, (simp e f, simp e g)); bytes = simp e (p .bytes) }
+      go false e f g = record { text = p .text; number = p .number; value = p .value; told = p .told; within = omega (arith, p .within); answer = (p .answer .0, (simp e f, simp e g)); bytes = simp e (p .bytes) }
 
   pub lines-end : (n : ℕ) (r : Answer) → Prints file false old (Accepted n) mid → Prints file true mid r new → Lines file old r new
   lines-end n r p q = go (eqb (p .number) 255) refl (p .answer .0)
@@ -176,5 +181,13 @@ module _ (file old mid new : List ℕ) where
       go true e f =
           let same = told-one (p .told) (q .told) in
           let whole : eqb (q .number) 255 ≡ true = rw (← same .1) e in
-          record { text = q .text; number = q .number; value = q .value; told = q .told; answer = q .answer; bytes = simp whole (q .bytes ∙ ap (λ l. sets l 0 (q .text)) (p .bytes)) }
+          record { text = q .text; number = q .number; value = q .value; told = q .told; within = omega (arith, q .within); answer = q .answer; bytes = simp whole (q .bytes ∙ ap (λ l. sets l 0 (q .text)) (p .bytes)) }
       go false e f = absurd (omega (arith, f, told-number (p .told)))
+
+-- what is written lies within the bytes lent
+pub lines-within : (file out : List ℕ) (n : ℕ) (after : List ℕ) → Lines file out (Accepted n) after → n ≤ length after
+lines-within file out n after p = go (eqb (p .number) 255) (p .answer .0) (p .answer .1) (p .bytes)
+  where
+    go : (t : Bool) → 0 ≡ cond t 0 (p .number) → n ≡ cond t (length (p .text)) (p .value) → after ≡ cond t (sets out 0 (p .text)) out → n ≤ length after
+    go true e f g = omega (arith, f, p .within, ap length g, length-sets out 0 (p .text))
+    go false e f g = absurd (omega (arith, e, told-number (p .told)))

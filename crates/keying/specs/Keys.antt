@@ -22,6 +22,7 @@ abbrev pub left : Ending → List ℕ → List ℕ → List ℕ
 left complete file out = file ++ drop (length file) out
 left (mistake line entry number start size) file out = out
 
+-- what key promises
 pub record Keys (text out : List ℕ) (r : Keyed) (after : List ℕ) : Type 0 where
   pub answer : Answers (meaning text) r
   pub bytes : after ≡ left (meaning text .ending) (meaning text .file) out

@@ -3,7 +3,7 @@
 use mathlib.Core.Bool.{Bool, cond}
 use mathlib.Core.List.{List}
 use mathlib.Core.Path.{_≡_}
-use Prim.Native.Nat.{ℕ, _-_}
+use Prim.Native.Nat.{ℕ, _-_, _≤_}
 use lib.Dec.{eqb}
 use lib.ListN.{length}
 use lib.Seq.{sets}
@@ -32,5 +32,6 @@ pub record Prints (file : List ℕ) (writing : Bool) (old : List ℕ) (r : Answe
   pub number : ℕ
   pub value : ℕ
   pub told : Told file 0 text number value
+  pub within : length text ≤ 61440
   pub answer : answer.Says r (λ n v. (n ≡ cond (eqb number 255) 0 number) × (v ≡ cond (eqb number 255) (cond writing (length text) 0) value))
   pub bytes : new ≡ cond writing (sets old 0 text) old
