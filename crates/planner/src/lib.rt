@@ -2,11 +2,13 @@
 mod chains;
 mod cores;
 mod list;
+mod memory;
 mod requests;
 mod rows;
 mod tighten;
 mod times;
 
 pub use list::judge;
+pub use memory::is_book;
 pub use requests::Request;
 pub use requests::apply;
