@@ -5,3 +5,4 @@ pub mod Rows
 pub mod Times
 pub mod Requests
 pub mod List
+pub mod Memory

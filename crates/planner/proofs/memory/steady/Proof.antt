@@ -1,0 +1,94 @@
+-- `planner::memory::steady` meets its contract.
+-- Assumes nothing.
+use mathlib.Core.Path.{_≡_, refl, sym, ap, _∙_}
+use native.Mathlib.Omega.{arith}
+use borrow.Author.Needs.{needs}
+use lib.ListN.{length}
+use Rattle.book.specs.Told.{cores, part}
+use Rattle.planner.specs.Inner.Tighten.{Tightens}
+use Rattle.planner.proofs.Hands.{hands-all}
+use Rattle.planner.proofs.Pending.{nothing-ready, nothing-tight}
+use Rattle.planner.proofs.IsBook.{whether-no, whether-as, steady-yes, steady-same, steady-none}
+use Rattle.planner.proofs.memory.steady.Statement.{statement}
+use Rattle.planner.proofs.memory.steady.Tie as tie
+
+latest-requires : tie.Need-latest-requires
+latest-requires c κs = search needs
+
+slice-aggregate-hand-over : tie.Need-slice-aggregate-hand-over
+slice-aggregate-hand-over c = search needs
+
+hand-over-requires : tie.Need-hand-over-requires
+hand-over-requires c κs = (omega (arith, ap length (c .before .latest .ensures), c .before .before .pre .1 .long), search needs)
+
+-- the row handed over is the book's
+copied : (c : tie.After-hand-over) → c .hand-over .last .1 .1 .0 ≡ part 65 (c .before .before .before .args .times .now)
+copied c =
+    let e = c .before .before .latest .ensures in
+    hands-all 64 _ _ _ (ap length e ∙ c .before .before .before .pre .1 .long) refl (c .hand-over .ensures) ∙ e
+
+starts-requires : tie.Need-starts-requires
+starts-requires c κs = search needs
+
+none-requires : tie.Need-none-requires
+none-requires c κs = search needs
+
+tighten-requires : tie.Need-tighten-requires
+tighten-requires c κs =
+    let h = c .before .before .before .before in
+    let s = h .before .before .before in
+    nothing-ready _ _ _ _ _ (c .before .none .ensures) (s .pre .0) (rw (c .before .before .starts .ensures, copied h) (s .pre .1))
+
+-- the row tightened
+tight : (c : tie.After-tighten) → let s = c .before .before .before .before .before .before .before .before in
+    Tightens cores (s .args .size) (part 1 (s .args .times .now)) (s .args .before .now) (part 65 (s .args .times .now)) (c .tighten .last .1 .1 .1 .1 .0) (c .tighten .result)
+tight c =
+    let n = c .before .before in
+    let h = n .before .before .before in
+    let s = h .before .before .before in
+    rw (n .before .starts .ensures, copied h) at (nothing-tight _ _ _ _ _ _ _ _ (n .none .ensures) (s .pre .0) (c .tighten .ensures))
+
+latest-requires-2 : tie.Need-latest-requires-2
+latest-requires-2 c κs = search needs
+
+slice-aggregate-same : tie.Need-slice-aggregate-same
+slice-aggregate-same c = search needs
+
+same-requires : tie.Need-same-requires
+same-requires c κs =
+    let t = c .before .before .before in
+    let s = t .before .before .before .before .before .before .before .before in
+    (ap length (c .before .latest2 .ensures) ∙ s .pre .1 .long, t .tighten .ensures .length)
+
+returns : tie.Need-returns
+returns c =
+    let l = c .before .before in
+    let t = l .before .before in
+    let s = t .before .before .before .before .before .before .before .before in
+    let fits = l .before .if1 .taken in
+    whether-as
+    (λ e. steady-yes _ _ _ _ _ _ (s .pre .1) (tight t) fits (sym (l .latest2 .ensures) ∙ e))
+    (λ x. l .latest2 .ensures ∙ steady-same _ _ _ _ _ _ (s .pre .1) (tight t) fits x)
+    (c .same .ensures)
+
+returns-2 : tie.Need-returns-2
+returns-2 c =
+    let t = c .before in
+    let s = t .before .before .before .before .before .before .before .before in
+    whether-no (steady-none _ _ _ _ _ _ (s .pre .1) (tight t) (c .if1 .left))
+
+pub steady-spec : {M : Type 1} → statement M
+steady-spec =
+    tie.close
+    (tie.spec
+    latest-requires
+    slice-aggregate-hand-over
+    hand-over-requires
+    starts-requires
+    none-requires
+    tighten-requires
+    latest-requires-2
+    slice-aggregate-same
+    same-requires
+    returns
+    returns-2)
