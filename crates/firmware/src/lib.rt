@@ -13,4 +13,5 @@ pub use plans::firmware_plan;
 pub use requests::firmware_add_job;
 pub use requests::firmware_add_order;
 pub use requests::firmware_draw_in;
+pub use requests::firmware_is_book;
 pub use requests::firmware_open;

@@ -5,12 +5,24 @@ use planner::Request;
 use schedule::JobIndex;
 ghost use Rattle.book.specs.Told.{Told, Made, held, nothing-listed};
 ghost use Rattle.planner.specs.Requests.{Applies, answered};
+ghost use Rattle.firmware.specs.Requests.{TellsBook};
 
 #[no_mangle]
 pub extern "C" fn firmware_open(times: &mut Times, before: &mut Before)
     ensures { λ _. ⌜ Told (held (now (times .exit)) (now (before .exit))) nothing-listed ⌝ }
 {
     book::open(times, before);
+}
+
+// 1 where the memory holds a book made by requests, and 0 for anything else.
+#[no_mangle]
+pub extern "C" fn firmware_is_book<'a>(times: &'a Times, before: &'a Before) -> u8
+    ensures { λ r. ⌜ TellsBook (held (now (times .entry)) (now (before .entry))) r ⌝ }
+{
+    if planner::is_book(times, before) {
+        return 1;
+    }
+    0
 }
 
 #[no_mangle]
