@@ -1,9 +1,8 @@
--- Laws that the proofs of the functions cite.
-pub mod Put
-pub mod Decimal
-pub mod Each
-pub mod Place
+-- The laws; the proof of a function stands in the folder of its module.
+
+-- the row of ends is the plan's
+pub mod Ends
+-- how long a listing can be
 pub mod Short
-pub mod Gather
-pub mod Once
+-- 01's example
 pub mod Example

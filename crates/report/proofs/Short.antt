@@ -2,21 +2,17 @@
 -- Assumes nothing.
 use mathlib.Core.Bool.{Bool, true, false, cond, _&&_}
 use mathlib.Core.List.{List}
-use mathlib.Core.Logic.{⊎-elim}
-use Prim.Native.Nat.{ℕ, zero, suc, _+_, _*_, _/_, _^_, _≤_, _<_}
-use native.Mathlib.Nat.{pow-suc, suc-mul}
+use Prim.Native.Nat.{ℕ, _+_, _*_, _/_, _^_, _≤_, _<_}
+use native.Mathlib.Nat.{le-trans}
 use native.Mathlib.Omega.{arith}
 use lib.Dec.{eqb}
 use lib.ListN.{length, getD, length-append}
-use Rattle.schedule.proofs.Tests.{le-or-lt}
-use Rattle.report.specs.Text.{decimal, each}
 use Rattle.report.specs.Line.{refused-line, stopped-line, jobs-line, core, slot-line, job-line}
 use Rattle.report.specs.Listing.{refused-lines, slot-lines, job-text, job-lines}
-use Rattle.book.specs.Told.{Book}
-use Rattle.book.specs.Told.{Made}
-use Rattle.planner.proofs.Handed.{plan-is-valid}
-use Rattle.jobfile.proofs.Part.{start-low, latest-high}
-use Rattle.report.proofs.Decimal.{front-small, front-large, decimal-last}
+use Rattle.book.specs.Told.{Book, latest-of, Made}
+use Rattle.plan.proofs.BookPlan.{book-plan, finish-fits}
+use Rattle.text.proofs.Decimal.{decimal-short}
+use Rattle.text.proofs.Each.{each-short}
 
 abbrev pub Short : ℕ → List ℕ → Type 0
 Short k text = length text ≤ k
@@ -24,21 +20,6 @@ Short k text = length text ≤ k
 either : (k : ℕ) (b : Bool) (x y : List ℕ) → Short k x → Short k y → Short k (cond b x y)
 either k true x y h i = h
 either k false x y h i = i
-
-pub decimal-short : (k n : ℕ) → n < 10 ^ suc k → Short (suc k) (decimal n)
-decimal-short zero n h = rw (decimal-last n, front-small n (omega arith)) (omega arith)
-decimal-short (suc k) n h =
-    let below : n < 10 ^ suc k * 10 = rw (← pow-suc 10 (suc k)) h in
-    ⊎-elim
-    (λ (small : n ≤ 9). rw (decimal-last n, front-small n small) (omega arith))
-    (λ (large : 9 < n). rw (decimal-last n, front-large n large) (simp length-append (omega (arith, decimal-short k (n / 10) (omega arith)))))
-    (le-or-lt n 9)
-
-pub each-short : (k n : ℕ) (text : ℕ → List ℕ) → ((i : ℕ) → i < n → Short k (text i)) → length (each n text) ≤ n * k
-unfolding each
-each-short k zero text h = omega arith
-each-short k (suc n) text h =
-    omega (arith, length-append (each n text) (text n), suc-mul n k, h n (omega arith), each-short k n text (λ i l. h i (omega arith)))
 
 pub refused-short : (place number : ℕ) → place < 10000 → number < 1000 → Short 24 (refused-line place number)
 refused-short place number h i =
@@ -73,11 +54,17 @@ slot-lines-short plan h small =
     each-short 18 (length plan / 2) _
     (λ t l. slot-short t (getD plan (2 * t) 0) (getD plan (2 * t + 1) 0) (omega arith) (omega (arith, small (2 * t))) (omega (arith, small (2 * t + 1))))
 
+-- what a book's limits leave of its times
+module _ (k : Book) (m : Made k) (job : ℕ) (h : job < k .size) where
+  latest-low : latest-of k job ≤ 4096
+  latest-low = le-trans (m .1 .holds .latest .beneath job h) (m .1 .limited .deadline job (omega (arith, m .1 .holds .reads .size)))
+
+  job-text-short : Short 50 (job-text k job)
+  job-text-short =
+      let ends = book-plan k m .meets .ends job h in
+      let begun = book-plan k m .valid .begun job h in
+      let few = m .1 .shaped .few in
+      job-short job _ _ _ _ (omega arith) (omega (arith, latest-low)) (omega (arith, latest-low)) (omega (arith, latest-low)) (omega (arith, latest-low))
+
 pub job-lines-short : (k : Book) → Made k → length (job-lines k) ≤ 3200
-job-lines-short k m =
-    let few = m .1 .shaped .few in
-    let long = each-short 50 (k .size) (job-text k) (λ i l.
-    let ends = plan-is-valid k m .1 .ends i l in
-    let late = latest-high k (m .0) (m .1) i l in
-    job-short i _ _ _ _ (omega arith) (omega (arith, start-low k (m .0) (m .1) i l)) (omega arith) (omega arith) (omega arith)) in
-    omega arith
+job-lines-short k m = omega (arith, m .1 .shaped .few, each-short 50 (k .size) (job-text k) (job-text-short k m))
