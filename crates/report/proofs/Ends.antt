@@ -62,7 +62,7 @@ module _ (k : Book) (m : Made k) where
   abbrev new : List ℕ
   new = bytes-of k ++ drop (cores * finish-of k) (bytes-of k)
 
-  long : length (bytes-of k) ≡ cores * finish-of k
+  pub long : length (bytes-of k) ≡ cores * finish-of k
   long = bytes-length (jobs-of k) (latest-of k) unplaced (finish-of k)
 
   shown : Shows k m (finish-of k) new
@@ -70,6 +70,15 @@ module _ (k : Book) (m : Made k) where
 
   seen : (p d : ℕ) → p < cores * finish-of k → getD new p d ≡ getD (bytes-of k) p d
   seen p d h = List·getD-append (bytes-of k) (drop (cores * finish-of k) (bytes-of k)) d p (omega (arith, long))
+
+  -- a byte is a job or an idle core
+  pub byte-small : (u c : ℕ) → u < finish-of k → c < cores → getD (bytes-of k) (cores * u + c) 0 ≤ 255
+  byte-small u c h l =
+      let e = seen (cores * u + c) 0 (omega arith) in
+      ⊎-elim
+      (λ idle. omega (arith, e, idle))
+      (λ x. omega (arith, e, x .2, x .1, m .1 .shaped .few))
+      (shown .others u c h l)
 
   module _ (i : ℕ) (h : i < k .size) where
     abbrev at : ℕ

@@ -2,7 +2,13 @@
 
 -- the row of ends is the plan's
 pub mod Ends
--- how long a listing can be
+-- what a whole file read tells the listing
+pub mod Ended
+-- how long a listing can be, and that it fits the bytes lent
 pub mod Short
+-- the parts one behind the other
+pub mod Whole
+-- no second outcome
+pub mod Only
 -- 01's example
 pub mod Example

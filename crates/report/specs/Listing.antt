@@ -6,9 +6,12 @@ use mathlib.Core.Path.{_≡_}
 use Prim.Native.Nat.{ℕ, _+_, _*_, _/_, _<_, _≤_}
 use lib.Dec.{eqb}
 use lib.ListN.{length, getD, drop}
-use Rattle.book.specs.Told.{Book, Told, held, latest-of, nothing-listed}
+use Rattle.refusal.specs.Table.{Table, check}
+use Rattle.book.specs.Told.{Book, Told, latest-of, nothing-listed}
 use Rattle.plan.specs.Plan.{finish-of, bytes-of}
 use Rattle.plan.specs.Place.{place-of}
+use Rattle.jobfile.specs.Reader.{Step}
+use Rattle.jobfile.specs.File.{SingleReads}
 use Rattle.text.specs.Text.{each}
 use Rattle.report.specs.Line.{refused-line, stopped-line, too-long-line, jobs-line, slot-line, job-line}
 
@@ -34,3 +37,24 @@ job-lines k = each (k .size) (job-text k)
 -- "Then jobs held and finishing time; a line for each slot with a job ..; a line for each job"
 abbrev pub book-lines : Book → List ℕ
 book-lines k = jobs-line (k .size) (finish-of k) ++ slot-lines (bytes-of k) ++ job-lines k
+
+-- the text of a file that is not too long: its records are read one by one into an empty book, up to the read that ends or stops
+pub record Prints (file text : List ℕ) : Type 0 where
+  pub opened : Book
+  pub empty : Told opened nothing-listed
+  pub numbers : List ℕ
+  pub last : Step
+  pub reads : SingleReads file opened 0 numbers last
+  pub told : text ≡ refused-lines numbers ++ stop-line (last .number) (last .value) ++ book-lines (last .book)
+
+-- the listing's text: "9 prints `file refused 9` alone"
+abbrev pub Listing : List ℕ → List ℕ → Type 0
+Listing file = Table (check 9 0 (24576 < length file)) (λ n v text. text ≡ too-long-line) (Prints file)
+
+-- what listing promises: the text stands at the front of the bytes lent, those beyond it stay, and the answer is its length
+pub record Lists (file old new : List ℕ) (r : ℕ) : Type 0 where
+  pub text : List ℕ
+  pub listing : Listing file text
+  pub bytes : new ≡ text ++ drop (length text) old
+  pub answer : r ≡ length text
+  pub within : r ≤ length new
