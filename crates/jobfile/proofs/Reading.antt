@@ -2,6 +2,7 @@
 -- Assumes nothing.
 use mathlib.Core.Bool.{not}
 use mathlib.Core.List.{List}
+use mathlib.Core.Logic.{inl, inr}
 use mathlib.Core.Path.{_≡_, refl, sym, ap, subst, _∙_}
 use Prim.Native.Nat.{ℕ, _+_, _≤_}
 use native.Mathlib.Omega.{arith}
@@ -14,20 +15,20 @@ use Rattle.refusal.specs.declared.Answer.{Answer}
 use Rattle.refusal.specs.Says.{Says}
 use Rattle.refusal.specs.Table.{Clear, Refuses, refused, passed, One}
 use Rattle.refusal.proofs.Says.{says-more}
-use Rattle.refusal.proofs.Table.{Each, among-each, refuses-each, table-one, table-all, table-past, table-refused}
+use Rattle.refusal.proofs.Table.{Each, among-each, refuses-each, table-one, table-all, table-free, table-caught, table-past, table-refused}
 use Rattle.planner.specs.declared.requests.Request.{Request}
 use Rattle.planner.specs.declared.requests.Request.the-variants.{Job, Before, Earlier}
-use Rattle.planner.specs.Requests.{request-checks, accepts-with, grow, Applied, answered, Turned, Grown, Outcome, Applies}
+use Rattle.planner.specs.Requests.{request-checks, accepts-with, grow, Applied, answered, Turned, Grown, Applies}
 use Rattle.planner.proofs.Outcome.{applies-only}
 use Rattle.records.specs.declared.Record.{Record}
 use Rattle.records.specs.Record.{length-of, Stands}
 use Rattle.records.specs.declared.Found.{Found}
 use Rattle.records.specs.declared.Found.the-variants as found
 use Rattle.records.specs.Find.{Stops, Shows, find-checks, Finds}
-use Rattle.records.proofs.Standing.{length-six, stands-one, stands-within}
+use Rattle.records.proofs.Standing.{length-six, stands-one, stands-within, stands-marked}
 use Rattle.jobfile.specs.declared.reader.Event.{Event}
 use Rattle.jobfile.specs.Reader.{Step, step, stops, halts, Tells, asks, Stays, Answers, ReadsRecord}
-use Rattle.jobfile.proofs.Events.{never, tells-only}
+use Rattle.jobfile.proofs.Events.{never, tells-told, tells-only}
 
 -- ---- one outcome
 module _ (k : Book) (file : List ℕ) (at : ℕ) (m : Made k) where
@@ -42,8 +43,11 @@ module _ (k : Book) (file : List ℕ) (at : ℕ) (m : Made k) where
   reads-only r s x y = table-one (find-checks file at) (Stays k at) (Answers k file at) (λ n v a b p q. p ∙ sym q) answers-one r s (x .outcome) (y .outcome)
 
   -- and so the call has one event, and leaves one book and one offset
-  pub event-only : (b c : Book) (i j : ℕ) (r s : Event) → Tells r (λ n v. ReadsRecord k file at (step b i n v)) → Tells s (λ n v. ReadsRecord k file at (step c j n v)) → r ≡ s
-  event-only b c i j r s x y = tells-only _ _ (λ n v u w p q. let e = reads-only _ _ p q in (ap (λ (z : Step). z .number) e, ap (λ (z : Step). z .value) e)) r s x y
+  pub event-only : (b c : Book) (i j : ℕ) (r s : Event) → Tells r (λ n v. ReadsRecord k file at (step b i n v)) → Tells s (λ n v. ReadsRecord k file at (step c j n v)) →
+      (r ≡ s) × (b ≡ c) × (i ≡ j)
+  event-only b c i j r s x y =
+      let e = reads-only _ _ (tells-told (λ n v. ReadsRecord k file at (step b i n v)) r x) (tells-told (λ n v. ReadsRecord k file at (step c j n v)) s y) in
+      (tells-only _ _ (λ n v u w p q. let f = reads-only _ _ p q in (ap (λ (z : Step). z .number) f, ap (λ (z : Step). z .value) f)) r s x y, ap (λ (z : Step). z .book) e, ap (λ (z : Step). z .at) e)
 
 -- ---- the number of a request is none of an end or a stop
 request-numbers : (L : Listed) (q : Request) → Each (λ n. T (not (halts n))) (request-checks L q)
@@ -81,6 +85,28 @@ module _ (k : Book) (file : List ℕ) (at : ℕ) (r : Step) (x : ReadsRecord k f
       let y = step-answers h in
       let a = y .1 in
       (le-by _ _ (y .0 .0), omega (arith, a .moved, length-six (a .told)), omega (arith, a .moved, stands-within file at (a .told) (a .stands)))
+
+-- a record that stands in a file in its limits passes every check
+stands-clear : (file : List ℕ) (at : ℕ) (q : Record) → length file ≤ 24576 → Stands file at q → Clear (find-checks file at)
+stands-clear file at q short x =
+    let within = stands-within file at q x in
+    let six = length-six q in
+    ((λ f. omega arith), ((λ f. omega arith), ((λ f. omega arith), λ f. f (stands-marked file at q x))))
+
+-- ---- a step by what stands at the offset of a file in its limits
+module _ (k : Book) (file : List ℕ) (at : ℕ) (r : Step) where
+  -- a record: it is answered and passed
+  pub reads-standing : (q : Record) → length file ≤ 24576 → Stands file at q → ReadsRecord k file at r →
+      (r .at ≡ at + length-of q) × Applies k (asks q) (answered (r .book) (r .number) (r .value))
+  reads-standing q short here x =
+      let a = table-free (find-checks file at) (Stays k at) (Answers k file at) r (stands-clear file at q short here) (x .outcome) in
+      let same : a .told ≡ q = stands-one file at (a .told) q (a .stands) here in
+      (a .moved ∙ ap (λ (p : Record). at + length-of p) same, subst (λ (p : Record). Applies k (asks p) (answered (r .book) (r .number) (r .value))) same (a .applies))
+
+-- nothing more: the end
+pub reads-end : (k : Book) (file : List ℕ) (r : Step) → length file ≤ 24576 → ReadsRecord k file (length file) r → r ≡ step k (length file) 255 0
+reads-end k file r short x =
+    table-caught (find-checks file (length file)) (Stays k (length file)) (Answers k file (length file)) r 255 0 (inr ((λ f. omega arith), inl (refl, refl, refl))) (x .outcome)
 
 -- ---- what is found decides
 module _ (k : Book) (file : List ℕ) (at : ℕ) (m : Made k) where
