@@ -4,12 +4,12 @@ use mathlib.Core.Bool.{Bool, true, false, not, _||_}
 use mathlib.Core.Path.{_≡_, refl, sym, ap, ap₂, subst}
 use Prim.Native.Nat.{ℕ}
 use lib.Dec.{T, eqb}
-use Rattle.refusal.proofs.Says.{says-only, says-more, says-told}
-use Rattle.refusal.specs.Says.{Says, number-of, value-of}
+use Rattle.refusal.proofs.Says.{says-only, says-told}
+use Rattle.refusal.specs.Says.{Says}
 use Rattle.refusal.specs.declared.Answer.{Answer}
 use Rattle.jobfile.specs.declared.reader.Event.{Event}
 use Rattle.jobfile.specs.declared.reader.Event.the-variants as event
-use Rattle.jobfile.specs.Reader.{stops, halts, Tells}
+use Rattle.jobfile.specs.Reader.{stops, halts, Tells, event-number, event-value}
 
 -- a test and its opposite
 pub never : (b : Bool) → T b → T (not b) → ⊥
@@ -27,12 +27,6 @@ stops-halts n x = go (eqb n 255) (stops n) x
 end-no-stop : (n : ℕ) → n ≡ 255 → T (stops n) → ⊥
 end-no-stop n e x = rw e at x
 
--- what follows of the number and the value
-pub tells-more : (P Q : ℕ → ℕ → Type 0) (r : Event) → ((n v : ℕ) → P n v → Q n v) → Tells r P → Tells r Q
-tells-more P Q (event.Request a) f x = says-more _ _ a (λ n v y. (y .0, f n v (y .1))) x
-tells-more P Q event.End f x = f 255 0 x
-tells-more P Q (event.Stopped n v) f x = (x .0, f n v (x .1))
-
 -- at the end and at a stop
 pub tells-halted : (P Q : ℕ → ℕ → Type 0) (r : Event) → ((answer : Answer) → r ≡ event.Request answer → ⊥) → ((n v : ℕ) → T (halts n) → P n v → Q n v) → Tells r P → Tells r Q
 tells-halted P Q (event.Request a) other f x = absurd (other a refl)
@@ -40,10 +34,10 @@ tells-halted P Q event.End other f x = f 255 0 tt x
 tells-halted P Q (event.Stopped n v) other f x = (x .0, f n v (stops-halts n (x .0)) (x .1))
 
 -- in numbers
-pub tells-told : (P : ℕ → ℕ → Type 0) (r : Event) → Tells r P → (n : ℕ) × (v : ℕ) × P n v
-tells-told P (event.Request a) x = (number-of a, value-of a, says-told _ a x .1)
-tells-told P event.End x = (255, 0, x)
-tells-told P (event.Stopped n v) x = (n, v, x .1)
+pub tells-told : (P : ℕ → ℕ → Type 0) (r : Event) → Tells r P → P (event-number r) (event-value r)
+tells-told P (event.Request a) x = says-told _ a x .1
+tells-told P event.End x = x
+tells-told P (event.Stopped n v) x = x .1
 
 -- where a promise leaves one number and one value, it leaves one event
 module _ (P Q : ℕ → ℕ → Type 0) (one : (n v m w : ℕ) → P n v → Q m w → (n ≡ m) × (v ≡ w)) where

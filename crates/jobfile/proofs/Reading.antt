@@ -18,7 +18,7 @@ use Rattle.refusal.proofs.Says.{says-more}
 use Rattle.refusal.proofs.Table.{Each, among-each, refuses-each, table-one, table-all, table-free, table-caught, table-past, table-refused}
 use Rattle.planner.specs.declared.requests.Request.{Request}
 use Rattle.planner.specs.declared.requests.Request.the-variants.{Job, Before, Earlier}
-use Rattle.planner.specs.Requests.{request-checks, accepts-with, grow, Applied, answered, Turned, Grown, Outcome, Applies}
+use Rattle.planner.specs.Requests.{request-checks, accepts-with, grow, Applied, answered, Turned, Grown, Applies}
 use Rattle.planner.proofs.Outcome.{applies-only}
 use Rattle.records.specs.declared.Record.{Record}
 use Rattle.records.specs.Record.{length-of, Stands}
@@ -28,7 +28,7 @@ use Rattle.records.specs.Find.{Stops, Shows, find-checks, Finds}
 use Rattle.records.proofs.Standing.{length-six, stands-one, stands-within, stands-marked}
 use Rattle.jobfile.specs.declared.reader.Event.{Event}
 use Rattle.jobfile.specs.Reader.{Step, step, stops, halts, Tells, asks, Stays, Answers, ReadsRecord}
-use Rattle.jobfile.proofs.Events.{never, tells-only}
+use Rattle.jobfile.proofs.Events.{never, tells-told, tells-only}
 
 -- ---- one outcome
 module _ (k : Book) (file : List ℕ) (at : ℕ) (m : Made k) where
@@ -43,8 +43,11 @@ module _ (k : Book) (file : List ℕ) (at : ℕ) (m : Made k) where
   reads-only r s x y = table-one (find-checks file at) (Stays k at) (Answers k file at) (λ n v a b p q. p ∙ sym q) answers-one r s (x .outcome) (y .outcome)
 
   -- and so the call has one event, and leaves one book and one offset
-  pub event-only : (b c : Book) (i j : ℕ) (r s : Event) → Tells r (λ n v. ReadsRecord k file at (step b i n v)) → Tells s (λ n v. ReadsRecord k file at (step c j n v)) → r ≡ s
-  event-only b c i j r s x y = tells-only _ _ (λ n v u w p q. let e = reads-only _ _ p q in (ap (λ (z : Step). z .number) e, ap (λ (z : Step). z .value) e)) r s x y
+  pub event-only : (b c : Book) (i j : ℕ) (r s : Event) → Tells r (λ n v. ReadsRecord k file at (step b i n v)) → Tells s (λ n v. ReadsRecord k file at (step c j n v)) →
+      (r ≡ s) × (b ≡ c) × (i ≡ j)
+  event-only b c i j r s x y =
+      let e = reads-only _ _ (tells-told (λ n v. ReadsRecord k file at (step b i n v)) r x) (tells-told (λ n v. ReadsRecord k file at (step c j n v)) s y) in
+      (tells-only _ _ (λ n v u w p q. let f = reads-only _ _ p q in (ap (λ (z : Step). z .number) f, ap (λ (z : Step). z .value) f)) r s x y, ap (λ (z : Step). z .book) e, ap (λ (z : Step). z .at) e)
 
 -- ---- the number of a request is none of an end or a stop
 request-numbers : (L : Listed) (q : Request) → Each (λ n. T (not (halts n))) (request-checks L q)

@@ -1,6 +1,5 @@
 -- What is written is read back.
 -- Assumes nothing.
-use mathlib.Core.Bool.{not}
 use mathlib.Core.List.{List, [], _∷_, _++_, append-assoc}
 use mathlib.Core.Path.{_≡_, refl, sym, ap, ap₂, subst, _∙_}
 use Prim.Native.Nat.{ℕ, _+_, _≤_}
@@ -11,18 +10,14 @@ use lib.ListN.{length, take, replicate, length-append}
 use Rattle.schedule.specs.Listed.{Listed}
 use Rattle.book.specs.Told.{Book, Told, Made, nothing-listed}
 use Rattle.book.proofs.Same.{told-one}
-use Rattle.refusal.specs.Table.{Table, refused, passed}
-use Rattle.refusal.proofs.Table.{table-caught, table-free}
 use Rattle.planner.specs.Requests.{grow, answered, Applied}
 use Rattle.records.specs.declared.Record.{Record}
 use Rattle.records.specs.Record.{bytes-of, length-of, Stands}
-use Rattle.records.specs.Find.{find-checks}
-use Rattle.records.proofs.Standing.{bytes-length, stands-here, stands-one, stands-within}
-use Rattle.jobfile.specs.Reader.{Step, step, halts, asks, Stays, Answers, ReadsRecord}
+use Rattle.records.proofs.Standing.{bytes-length, stands-here}
+use Rattle.jobfile.specs.Reader.{Step, step, halts, asks, ReadsRecord}
 use Rattle.jobfile.specs.File.{SingleReads, last, more, ReadsFile}
 use Rattle.jobfile.specs.Writer.{bytes-of-all, records-of, file-of, WritesBook}
 use Rattle.jobfile.specs.RoundTrip.{ReadsBack}
-use Rattle.jobfile.proofs.Events.{never}
 use Rattle.jobfile.proofs.Reading.{step-answers, reads-standing, reads-end}
 use Rattle.jobfile.proofs.Length.{file-short}
 use Rattle.jobfile.proofs.Writing.{written-file}
@@ -80,5 +75,6 @@ round-trip k m old new v e numbers r w z reads =
     (x .0, x .1 ∙ ap (λ (n : ℕ). step k n 255 0) (sym (f .0)))
 
 -- the same by one call of read_file
-pub write-then-read : (k e : Book) (old new lent answers : List ℕ) (v : ℕ) (r : Step) → Made k → WritesBook k old new 0 v → Told e nothing-listed → ReadsFile e (take v new) lent answers r → r ≡ step k v 255 0
-write-then-read k e old new lent answers v r m w z x = round-trip k m old new v e (x .numbers) r w z (x .reads) .1
+pub write-then-read : (k e : Book) (old new lent answers : List ℕ) (v n : ℕ) (r : Step) → Made k → WritesBook k old new 0 v → Told e nothing-listed → ReadsFile e (take v new) lent answers n r →
+    r ≡ step k v 255 0
+write-then-read k e old new lent answers v n r m w z x = round-trip k m old new v e (x .numbers) r w z (x .reads) .1

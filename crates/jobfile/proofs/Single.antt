@@ -19,7 +19,7 @@ use Rattle.jobfile.specs.declared.reader.Event.the-variants as event
 use Rattle.jobfile.specs.Reader.{Step, step, halts, Tells, ReadsRecord}
 use Rattle.jobfile.specs.File.{SingleReads, last, more, ReadsFile}
 use Rattle.jobfile.specs.Inner.File.{Underway}
-use Rattle.jobfile.proofs.Events.{never, tells-only}
+use Rattle.jobfile.proofs.Events.{never, tells-told, tells-only}
 use Rattle.jobfile.proofs.Reading.{reads-only, step-within}
 
 -- ---- the loop
@@ -34,9 +34,10 @@ module _ (k : Book) (file old : List ℕ) where
 
   module _ (new : List ℕ) (held : Book) (at n : ℕ) (u : Underway k file old new held at n) (r : Step) (x : ReadsRecord held file at r) where
     -- the last read
-    pub underway-ends : T (halts (r .number)) → ReadsFile k file old new r
+    pub underway-ends : T (halts (r .number)) → ReadsFile k file old new n r
     underway-ends h = record {
       numbers = u .numbers;
+      count = u .count;
       reads = subst (λ l. SingleReads file k 0 l r) (append-nil (u .numbers)) (u .rest [] r (last x h));
       bytes = u .bytes;
       made = x .made;
@@ -71,8 +72,8 @@ single-reads-few file k at numbers r h (more {numbers = others} t x f p) =
     omega (arith, single-reads-few file (t .book) (t .at) others r (omega arith) p)
 
 -- so that their numbers stand first in 4,096 bytes
-pub reads-file-bytes : (k : Book) (file old new : List ℕ) (r : Step) → length old ≡ 4096 → (x : ReadsFile k file old new r) → new ≡ x .numbers ++ drop (length (x .numbers)) old
-reads-file-bytes k file old new r h x =
+pub reads-file-bytes : (k : Book) (file old new : List ℕ) (n : ℕ) (r : Step) → length old ≡ 4096 → (x : ReadsFile k file old new n r) → new ≡ x .numbers ++ drop (length (x .numbers)) old
+reads-file-bytes k file old new n r h x =
     x .bytes ∙ sets-eq (x .numbers) old 0 (omega (arith, zero-add (length (x .numbers)), single-reads-few file k 0 (x .numbers) r (omega arith) (x .reads)))
     ∙ ap (λ (m : ℕ). x .numbers ++ drop m old) (zero-add (length (x .numbers)))
 
@@ -89,13 +90,23 @@ single-reads-one file k at ns ms r s m (more {numbers = others} t x f p) (more {
     (ap₂ (λ (c : Step) (l : List ℕ). c .number ∷ l) same (ih .0), ih .1)
 
 module _ (k : Book) (file old : List ℕ) (m : Made k) where
-  -- the promise of read_file has one step and one row of bytes
-  pub reads-file-only : (new other : List ℕ) (r s : Step) → ReadsFile k file old new r → ReadsFile k file old other s → (r ≡ s) × (new ≡ other)
-  reads-file-only new other r s x y =
+  -- the promise of read_file has one step, one number of records and one row of bytes
+  pub reads-file-only : (new other : List ℕ) (n m : ℕ) (r s : Step) → ReadsFile k file old new n r → ReadsFile k file old other m s → (r ≡ s) × (n ≡ m) × (new ≡ other)
+  reads-file-only new other n o r s x y =
       let p = single-reads-one file k 0 (x .numbers) (y .numbers) r s m (x .reads) (y .reads) in
-      (p .1, x .bytes ∙ ap (sets old 0) (p .0) ∙ sym (y .bytes))
+      (p .1, x .count ∙ ap length (p .0) ∙ sym (y .count), x .bytes ∙ ap (sets old 0) (p .0) ∙ sym (y .bytes))
 
-  -- and so the call has one event
-  pub ended-only : (b c : Book) (i j : ℕ) (new other : List ℕ) (r s : Event) → Tells r (λ n v. ReadsFile k file old new (step b i n v)) → Tells s (λ n v. ReadsFile k file old other (step c j n v)) → r ≡ s
-  ended-only b c i j new other r s x y =
-      tells-only _ _ (λ n v u w p q. let e = reads-file-only new other _ _ p q .0 in (ap (λ (z : Step). z .number) e, ap (λ (z : Step). z .value) e)) r s x y
+  -- and so the call has one event, and leaves one book
+  pub ended-only : (b c : Book) (i j n o : ℕ) (new other : List ℕ) (r s : Event) →
+      Tells r (λ number v. ReadsFile k file old new n (step b i number v)) → Tells s (λ number v. ReadsFile k file old other o (step c j number v)) →
+      (r ≡ s) × (b ≡ c) × (i ≡ j) × (n ≡ o) × (new ≡ other)
+  ended-only b c i j n o new other r s x y =
+      let p = tells-told (λ number v. ReadsFile k file old new n (step b i number v)) r x in
+      let q = tells-told (λ number v. ReadsFile k file old other o (step c j number v)) s y in
+      let e = reads-file-only new other n o _ _ p q in (
+        tells-only _ _ (λ a v d w f g. let h = reads-file-only new other n o _ _ f g .0 in (ap (λ (z : Step). z .number) h, ap (λ (z : Step). z .value) h)) r s x y,
+        ap (λ (z : Step). z .book) (e .0),
+        ap (λ (z : Step). z .at) (e .0),
+        e .1,
+        e .2,
+      )

@@ -11,10 +11,10 @@ use Rattle.book.specs.Told.{Book, Made}
 use Rattle.refusal.specs.declared.Answer.{Answer}
 use Rattle.refusal.specs.Says.{Says}
 use Rattle.refusal.specs.Table.{refused, passed}
-use Rattle.refusal.proofs.Says.{says-only}
+use Rattle.refusal.proofs.Says.{says-told, says-only}
 use Rattle.refusal.proofs.Table.{table-one, table-free, table-past}
 use Rattle.records.proofs.Stored.{sets-append}
-use Rattle.jobfile.specs.Writer.{gather, bytes-of-all, job-record, follower-records, records-of, file-of, Put, put, WritesBook, Enough}
+use Rattle.jobfile.specs.Writer.{gather, bytes-of-all, job-record, follower-records, records-of, file-of, Output, output, WritesBook, Enough}
 use Rattle.jobfile.specs.Inner.Writer.{Continues}
 use Rattle.jobfile.proofs.Bytes.{all-append}
 use Rattle.jobfile.proofs.Length.{file-short}
@@ -39,7 +39,7 @@ module _ (k : Book) where
 
     -- jobs stored, and then orders, are the whole file stored
     pub long-writes : (mid new : List ℕ) (at : ℕ) → n ≤ length old → Continues 0 jobs-bytes old mid at → new ≡ sets mid at orders-bytes → WritesBook k old new 0 n
-    long-writes mid new at h c x = record { outcome = passed (λ f. omega arith) (λ i. put (stored i) 0 (e i)) }
+    long-writes mid new at h c x = record { outcome = passed (λ f. omega arith) (λ i. output (stored i) 0 (e i)) }
       where
         stored : new ≡ file-of k ++ drop (length (file-of k)) old
         stored =
@@ -48,25 +48,26 @@ module _ (k : Book) where
             ∙ sets-eq (file-of k) old 0 (omega (arith, zero-add (length (file-of k)))) ∙ ap (λ (m : ℕ). file-of k ++ drop m old) (zero-add (length (file-of k)))
 
   -- ---- one outcome
-  pub writes-only : (old new other : List ℕ) (n v m w : ℕ) → WritesBook k old new n v → WritesBook k old other m w → put new n v ≡ put other m w
-  writes-only old new other n v m w x y = table-one _ _ _ (λ i j a b p q. p ∙ sym q) (λ a b p q. p ∙ sym q) (put new n v) (put other m w) (x .outcome) (y .outcome)
+  pub writes-only : (old new other : List ℕ) (n v m w : ℕ) → WritesBook k old new n v → WritesBook k old other m w → output new n v ≡ output other m w
+  writes-only old new other n v m w x y = table-one _ _ _ (λ i j a b p q. p ∙ sym q) (λ a b p q. p ∙ sym q) (output new n v) (output other m w) (x .outcome) (y .outcome)
 
-  -- and so the call has one answer
-  pub write-only : (old new other : List ℕ) (r s : Answer) → Says r (λ n v. WritesBook k old new n v) → Says s (λ n v. WritesBook k old other n v) → r ≡ s
+  -- and so the call has one answer, and leaves one row of bytes
+  pub write-only : (old new other : List ℕ) (r s : Answer) → Says r (λ n v. WritesBook k old new n v) → Says s (λ n v. WritesBook k old other n v) → (r ≡ s) × (new ≡ other)
   write-only old new other r s x y =
-      says-only _ _ r s (λ n v m w p q. let e = writes-only old new other n v m w p q in (ap (λ (z : Put). z .number) e, ap (λ (z : Put). z .value) e)) x y
+      let e = writes-only old new other _ _ _ _ (says-told (λ n v. WritesBook k old new n v) r x) (says-told (λ n v. WritesBook k old other n v) s y) in
+      (says-only _ _ r s (λ n v m w p q. let f = writes-only old new other n v m w p q in (ap (λ (z : Output). z .number) f, ap (λ (z : Output). z .value) f)) x y, ap (λ (z : Output). z .bytes) e)
 
   -- what was written, cut to the value told, is the file
   pub written-file : (old new : List ℕ) (v : ℕ) → WritesBook k old new 0 v → (v ≡ length (file-of k)) × (take v new ≡ file-of k)
   written-file old new v x =
-      let y = table-past _ _ _ (put new 0 v) (λ n w a p. let z = ap (λ (z : Put). z .number) p in omega (arith, a, z)) (x .outcome) .1 in
-      let e : v ≡ length (file-of k) = ap (λ (z : Put). z .value) y in
-      (e, ap (take v) (ap (λ (z : Put). z .bytes) y) ∙ take-at (file-of k) _ v (sym e))
+      let y = table-past _ _ _ (output new 0 v) (λ n w a p. let z = ap (λ (z : Output). z .number) p in omega (arith, a, z)) (x .outcome) .1 in
+      let e : v ≡ length (file-of k) = ap (λ (z : Output). z .value) y in
+      (e, ap (take v) (ap (λ (z : Output). z .bytes) y) ∙ take-at (file-of k) _ v (sym e))
 
 -- 12,480 bytes are always enough
 pub enough : (k : Book) → Made k → Enough k
 enough k m = record {
   short = file-short k (m .0) (m .1);
   accepted = λ old new n v room x.
-      ap (λ (z : Put). z .number) (table-free _ _ _ (put new n v) (λ f. omega (arith, f, file-short k (m .0) (m .1))) (x .outcome));
+      ap (λ (z : Output). z .number) (table-free _ _ _ (output new n v) (λ f. omega (arith, f, file-short k (m .0) (m .1))) (x .outcome));
 }

@@ -5,6 +5,7 @@ use mathlib.Core.List.{List, [], _∷_}
 use mathlib.Core.Path.{_≡_}
 use Prim.Native.Nat.{ℕ}
 use lib.Dec.{T}
+use lib.ListN.{length}
 use lib.Seq.{sets}
 use Rattle.book.specs.Told.{Book, Made}
 use Rattle.jobfile.specs.Reader.{Step, halts, ReadsRecord}
@@ -15,9 +16,10 @@ pub data SingleReads (file : List ℕ) : Book → ℕ → List ℕ → Step → 
   more : {k : Book} {at : ℕ} {numbers : List ℕ} {s : Step} (r : Step) → ReadsRecord k file at r → T (not (halts (r .number))) →
       SingleReads file (r .book) (r .at) numbers s → SingleReads file k at (r .number ∷ numbers) s
 
--- what read_file promises: single reads from offset 0; the first bytes lent get the numbers, and those beyond stay; `made` follows from the rest, and serves the next call
-pub record ReadsFile (k : Book) (file old new : List ℕ) (r : Step) : Type 0 where
+-- what read_file promises: single reads from offset 0, and how many records they answered; the first bytes lent get the numbers, and those beyond stay; `made` follows from the rest, and serves the next call
+pub record ReadsFile (k : Book) (file old new : List ℕ) (records : ℕ) (r : Step) : Type 0 where
   pub numbers : List ℕ
+  pub count : records ≡ length numbers
   pub reads : SingleReads file k 0 numbers r
   pub bytes : new ≡ sets old 0 numbers
   pub made : Made (r .book)

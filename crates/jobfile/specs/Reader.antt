@@ -13,7 +13,7 @@ use Rattle.records.specs.declared.Record.{Record}
 use Rattle.records.specs.declared.Record.the-variants.{Job, Order, Deadline}
 use Rattle.records.specs.Record.{length-of, Stands}
 use Rattle.records.specs.Find.{find-checks}
-use Rattle.refusal.specs.Says.{Says}
+use Rattle.refusal.specs.Says.{Says, number-of, value-of}
 use Rattle.refusal.specs.Table.{Table}
 use Rattle.jobfile.specs.declared.reader.Event.{Event}
 use Rattle.jobfile.specs.declared.reader.Event.the-variants as event
@@ -41,6 +41,17 @@ abbrev pub Tells : Event → (ℕ → ℕ → Type 0) → Type 0
 Tells (event.Request answer) P = Says answer (λ number value. T (not (halts number)) × P number value)
 Tells event.End P = P 255 0
 Tells (event.Stopped number value) P = T (stops number) × P number value
+
+-- the number, and the value
+abbrev pub event-number : Event → ℕ
+event-number (event.Request answer) = number-of answer
+event-number event.End = 255
+event-number (event.Stopped number value) = number
+
+abbrev pub event-value : Event → ℕ
+event-value (event.Request answer) = value-of answer
+event-value event.End = 0
+event-value (event.Stopped number value) = value
 
 -- what a record asks (01, Job file: "`JB` start, deadline; `OR` first, second; `TG` job, deadline")
 abbrev pub asks : Record → Request

@@ -5,7 +5,7 @@ use mathlib.Core.List.{List, [], _∷_, _++_}
 use mathlib.Core.Path.{_≡_}
 use Prim.Native.Nat.{ℕ, zero, suc, _≤_, _<_}
 use lib.ListN.{length, getD, drop}
-use Rattle.book.specs.Told.{Book, Made}
+use Rattle.book.specs.Told.{Book}
 use Rattle.records.specs.declared.Record.{Record}
 use Rattle.records.specs.declared.Record.the-variants.{Job, Order}
 use Rattle.records.specs.Record.{bytes-of}
@@ -45,18 +45,18 @@ unfolding bytes-of-all records-of
 file-of k = bytes-of-all (records-of k)
 
 -- the bytes lent, and the answer's number, 0 for accepted, and value
-pub record Put : Type 0 where
+pub record Output : Type 0 where
   pub bytes : List ℕ
   pub number : ℕ
   pub value : ℕ
 
-abbrev pub put : List ℕ → ℕ → ℕ → Put
-put bytes number value = record { bytes = bytes; number = number; value = value }
+abbrev pub output : List ℕ → ℕ → ℕ → Output
+output bytes number value = record { bytes = bytes; number = number; value = value }
 
 -- what write promises: 8 with the bytes needed, and nothing written; or the file and its length, and the bytes beyond stay (01, Numbers of refusal: 8; Job file)
 pub record WritesBook (k : Book) (old new : List ℕ) (n v : ℕ) : Type 0 where
-  pub outcome : Table (check 8 (length (file-of k)) (length old < length (file-of k))) (λ number value r. r ≡ put old number value)
-      (λ r. r ≡ put (file-of k ++ drop (length (file-of k)) old) 0 (length (file-of k))) (put new n v)
+  pub outcome : Table (check 8 (length (file-of k)) (length old < length (file-of k))) (λ number value r. r ≡ output old number value)
+      (λ r. r ≡ output (file-of k ++ drop (length (file-of k)) old) 0 (length (file-of k))) (output new n v)
 
 -- 12,480 bytes are enough: 64 jobs and 2,016 pairs (01, Numbers of refusal: 8)
 pub record Enough (k : Book) : Type 0 where

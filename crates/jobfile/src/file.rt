@@ -7,13 +7,14 @@ ghost use Rattle.book.specs.Told.{Made, held};
 ghost use Rattle.jobfile.specs.Reader.{Tells, step};
 ghost use Rattle.jobfile.specs.File.{ReadsFile};
 
-// How far a file was read, and why it ended there.
+// How many records were read, how far, and why it ended there.
 pub struct Ended {
+    pub records: usize,
     pub at: usize,
     pub event: Event,
 }
 
-// Record after record from offset 0; byte i of `answers` gets the number of record i, 0 where it is accepted. No file has more than 4,096 records.
+// Record after record from offset 0; byte i of `answers` gets the number of record i, 0 where it is accepted. No file has more records than these bytes.
 pub fn read_file(
     times: &mut Times,
     before: &mut Before,
@@ -21,16 +22,16 @@ pub fn read_file(
     answers: &mut [u8; 4096],
 ) -> Ended
     requires { ⌜ Made (held (now times) (now before)) ⌝ }
-    ensures { λ r. ⌜ Tells (r .event) (λ n v. ReadsFile (held (now (times .entry)) (now (before .entry))) (now (file .entry)) (now (answers .entry)) (now (answers .exit)) (step (held (now (times .exit)) (now (before .exit))) (r .at) n v)) ⌝ }
+    ensures { λ r. ⌜ Tells (r .event) (λ n v. ReadsFile (held (now (times .entry)) (now (before .entry))) (now (file .entry)) (now (answers .entry)) (now (answers .exit)) (r .records) (step (held (now (times .exit)) (now (before .exit))) (r .at) n v)) ⌝ }
 {
     let mut at: usize = 0;
-    let mut done: usize = 0;
+    let mut records: usize = 0;
     loop {
         let event = reader::read(times, before, file, &mut at);
         let Event::Request(answer) = event else {
-            return Ended { at, event };
+            return Ended { records, at, event };
         };
-        answers[done] = refusal::number(answer);
-        done += 1;
+        answers[records] = refusal::number(answer);
+        records += 1;
     }
 }

@@ -14,7 +14,7 @@ ghost use Rattle.book.specs.Told.{Made, held};
 ghost use Rattle.jobfile.specs.Writer.{gather, bytes-of-all, job-record, follower-records, WritesBook};
 ghost use Rattle.jobfile.specs.Inner.Writer.{pairs-in, Continues};
 
-// `JB` for each job, then `OR` for every pair where one precedes the other; nothing where the bytes are too few.
+// `JB` for each job, then `OR` for every pair where one precedes the other; nothing where the bytes are too few. 12,480 are always enough.
 pub fn write(times: &Times, before: &Before, out: &mut [u8]) -> Answer
     requires { ⌜ Made (held (now times) (now before)) ⌝ }
     ensures { λ r. ⌜ Says r (λ n v. WritesBook (held (now (times .entry)) (now (before .entry))) (now (out .entry)) (now (out .exit)) n v) ⌝ }
@@ -29,6 +29,7 @@ pub fn write(times: &Times, before: &Before, out: &mut [u8]) -> Answer
     Answer::Accepted(needed)
 }
 
+// The number of jobs as a machine word.
 fn wide(size: u16) -> usize
     ensures { λ r. ⌜ r ≡ size ⌝ }
 {
@@ -75,10 +76,13 @@ fn put_followers(size: usize, before: &Before, job: JobIndex, out: &mut [u8], at
     requires { ⌜ (size ≤ 64) × (job .0 < 64) × (at + length (bytes-of-all (follower-records size (now before) (job .0))) ≤ length (now out)) ⌝ }
     ensures { λ r. ⌜ Continues at (bytes-of-all (follower-records size (now (before .entry)) (job .0))) (now (out .entry)) (now (out .exit)) r ⌝ }
 {
+    let a = job.0;
+    let first = a as u16;
     let mut next = at;
     for b in 0..size {
         if sets::has(before[b], job) {
-            next = put(out, next, Record::Order(job.0 as u16, b as u16));
+            let second = b as u16;
+            next = put(out, next, Record::Order(first, second));
         }
     }
     next

@@ -17,10 +17,10 @@ use Rattle.jobfile.proofs.file.read_file.Statement.{statement}
 use Rattle.jobfile.proofs.file.read_file.Tie as tie
 
 abbrev Inv-loop : tie.InvT-loop
-Inv-loop times₀ before₀ file answers₀ at₀ done₀ times before answers at done = Underway (held times₀ before₀) file answers₀ answers (held times before) at done
+Inv-loop times₀ before₀ file answers₀ at₀ records₀ times before answers at records = Underway (held times₀ before₀) file answers₀ answers (held times before) at records
 
 abbrev μ-loop : tie.MeasureT-loop
-μ-loop times₀ before₀ file answers₀ at₀ done₀ times before answers at done = length file - at
+μ-loop times₀ before₀ file answers₀ at₀ records₀ times before answers at records = length file - at
 
 loop-holds : tie.Need-loop-holds Inv-loop μ-loop
 loop-holds c = underway-begins _ _ _ (c .before .pre)
@@ -40,7 +40,8 @@ returns c =
 
 -- what the read of a request tells
 told : (c : tie.After-event Inv-loop μ-loop) → let r = c .before .before in let l = r .before .before .before .before in let a = c .event .given .0 .0 in
-    T (not (halts (number-of a))) × ReadsRecord (held (l .loop .times) (l .loop .before)) (l .before .before .args .file .now) (l .loop .at) (step (held (r .read .last .0) (r .read .last .1 .0)) (r .read .last .1 .1 .1 .0) (number-of a) (value-of a))
+    T (not (halts (number-of a))) × ReadsRecord (held (l .loop .times) (l .loop .before)) (l .before .before .args .file .now) (l .loop .at)
+    (step (held (r .read .last .0) (r .read .last .1 .0)) (r .read .last .1 .1 .1 .0) (number-of a) (value-of a))
 told c = request-told _ _ _ _ _ _ _ (c .event .given .1) (c .before .before .read .ensures)
 
 number-requires : tie.Need-number-requires Inv-loop μ-loop
@@ -49,8 +50,8 @@ number-requires c κs = search needs
 element-write-answers : tie.Need-element-write-answers Inv-loop μ-loop
 element-write-answers c = let e = c .before .before in underway-room _ _ _ _ _ _ _ (e .before .before .before .before .before .before .loop .inv) _ (told e .1) (told e .0)
 
-add-done : tie.Need-add-done Inv-loop μ-loop
-add-done c = omega (arith, element-write-answers c)
+add-records : tie.Need-add-records Inv-loop μ-loop
+add-records c = omega (arith, element-write-answers c)
 
 loop-less : tie.Need-loop-less Inv-loop μ-loop
 loop-less c = let e = c .before .before in underway-less _ _ _ _ _ _ _ (e .before .before .before .before .before .before .loop .inv) _ (told e .1) (told e .0)
@@ -72,6 +73,6 @@ read-file-spec =
     returns
     number-requires
     element-write-answers
-    add-done
+    add-records
     loop-less
     loop-again)

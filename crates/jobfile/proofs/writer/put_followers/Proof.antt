@@ -14,10 +14,10 @@ use Rattle.jobfile.proofs.writer.put_followers.Statement.{statement}
 use Rattle.jobfile.proofs.writer.put_followers.Tie as tie
 
 abbrev Inv-loop : tie.InvT-loop
-Inv-loop size before job out₀ at next₀ b₀ out next b = (b ≤ size) × Continues at (bytes-of-all (gather b (order-record before (job .0)))) out₀ out next
+Inv-loop size before job out₀ at a first next₀ b₀ out next b = (b ≤ size) × Continues at (bytes-of-all (gather b (order-record before a))) out₀ out next
 
 abbrev μ-loop : tie.MeasureT-loop
-μ-loop size before job out₀ at next₀ b₀ out next b = size - b
+μ-loop size before job out₀ at a first next₀ b₀ out next b = size - b
 
 -- the record, where the set has the job
 some : (t : tie.Then1 Inv-loop μ-loop) → let p = t .before .before .before .before in let a = p .before .before .args in
@@ -34,6 +34,9 @@ none t =
     let a = p .before .before .args in
     order-none (a .before .now) (a .job .0) (p .loop .b) (sym (t .before .has .ensures) ∙ t .if1 .left)
 
+cast-first : tie.Need-cast-first Inv-loop μ-loop
+cast-first c = search needs
+
 loop-holds : tie.Need-loop-holds Inv-loop μ-loop
 loop-holds c = (search needs, continues-none _ _ _)
 
@@ -46,18 +49,15 @@ element-copy-out-has c = search needs
 has-requires : tie.Need-has-requires Inv-loop μ-loop
 has-requires c κs = search needs
 
-cast-t16 : tie.Need-cast-t16 Inv-loop μ-loop
-cast-t16 c = search needs
-
-cast-t17 : tie.Need-cast-t17 Inv-loop μ-loop
-cast-t17 c = search needs
+cast-second : tie.Need-cast-second Inv-loop μ-loop
+cast-second c = search needs
 
 put-requires : tie.Need-put-requires Inv-loop μ-loop
 put-requires c κs =
-    let t = c .before .before .before .before .before in
+    let t = c .before .before .before .before in
     let p = t .before in
     let room = continues-room _ _ _ _ _ _ _ (t .loop-test .taken) (p .before .before .pre .2) (p .loop .inv .1) in
-    room-one _ _ _ (rw (some (c .before .before)) at room)
+    room-one _ _ _ (rw (some (c .before)) at room)
 
 add-b : tie.Need-add-b Inv-loop μ-loop
 add-b c = search needs
@@ -70,7 +70,7 @@ loop-again c =
     let p = c .before .before .before .before in (
       search needs,
       continues-more _ _ _ _ _ _ _ _ (p .loop .inv .1) (⊎-elim
-          (λ w. rw (some (record { before = c .before; if1 = w .0 }), all-one) (record { stored = rw (w .6) (w .3 .ensures .stored); next = rw (w .7) (w .3 .ensures .next) }))
+          (λ w. rw (some (record { before = c .before; if1 = w .0 }), all-one) (record { stored = rw (w .5) (w .2 .ensures .stored); next = rw (w .6) (w .2 .ensures .next) }))
           (λ w. rw (none (record { before = c .before; if1 = w .0 })) (continues-still (w .1) (w .2)))
           (c .if1 .came)),
     )
@@ -90,12 +90,12 @@ put-followers-spec =
     (tie.spec
     Inv-loop
     μ-loop
+    cast-first
     loop-holds
     mul-has
     element-copy-out-has
     has-requires
-    cast-t16
-    cast-t17
+    cast-second
     put-requires
     add-b
     loop-less
