@@ -22,7 +22,7 @@ use Rattle.records.specs.declared.Record.{Record}
 use Rattle.records.specs.Record.{length-of, Stands}
 use Rattle.records.specs.Find.{find-checks}
 use Rattle.jobfile.specs.Reader.{Step, asks, Stays, Answers, ReadsRecord}
-use Rattle.jobfile.specs.Writer.{file-of, Put, put, WritesBook}
+use Rattle.jobfile.specs.Writer.{file-of, Output, output, WritesBook}
 use Rattle.demands.specs.Demands.{Numbered, Demand1}
 
 -- ---- every number of the tables
@@ -74,10 +74,10 @@ record-read k file at r m x h some = go (x .outcome)
 written : (k : Book) (old new : List ℕ) (n v : ℕ) → WritesBook k old new n v → 1 ≤ n → Numbered n × (new ≡ old)
 written k old new n v x h = go (x .outcome)
   where
-    go : Table (check 8 (length (file-of k)) (length old < length (file-of k))) (λ number value r. r ≡ put old number value)
-        (λ r. r ≡ put (file-of k ++ drop (length (file-of k)) old) 0 (length (file-of k))) (put new n v) → Numbered n × (new ≡ old)
-    go (refused c w y e) = let number : n ≡ 8 = ap (λ (p : Put). p .number) e ∙ y .1 in ((omega arith, omega arith), ap (λ (p : Put). p .bytes) e)
-    go (passed y e) = absurd (omega (arith, ap (λ (p : Put). p .number) e))
+    go : Table (check 8 (length (file-of k)) (length old < length (file-of k))) (λ number value r. r ≡ output old number value)
+        (λ r. r ≡ output (file-of k ++ drop (length (file-of k)) old) 0 (length (file-of k))) (output new n v) → Numbered n × (new ≡ old)
+    go (refused c w y e) = let number : n ≡ 8 = ap (λ (p : Output). p .number) e ∙ y .1 in ((omega arith, omega arith), ap (λ (p : Output). p .bytes) e)
+    go (passed y e) = absurd (omega (arith, ap (λ (p : Output). p .number) e))
 
 pub demand-1 : Demand1
 demand-1 = record { request = request; list = list; plan = plan; place = place; record-read = record-read; written = written }

@@ -2,4 +2,3 @@
 pub mod Requests
 pub mod List
 pub mod Plans
-pub mod Inner

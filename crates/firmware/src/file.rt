@@ -4,9 +4,8 @@ use book::Times;
 use jobfile::Event;
 ghost use mathlib.Core.Path.{_≡_};
 ghost use Rattle.book.specs.Told.{Made, held};
-ghost use Rattle.jobfile.specs.Reader.{ReadsRecord, step};
+ghost use Rattle.jobfile.specs.Reader.{ReadsRecord, step, event-number, event-value};
 ghost use Rattle.jobfile.specs.Writer.{WritesBook};
-ghost use Rattle.firmware.specs.Inner.File.{event-number, event-value};
 
 #[no_mangle]
 pub extern "C" fn firmware_read(

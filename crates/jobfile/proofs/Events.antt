@@ -4,7 +4,7 @@ use mathlib.Core.Bool.{Bool, true, false, not, _||_}
 use mathlib.Core.Path.{_≡_, refl, sym, ap, ap₂, subst}
 use Prim.Native.Nat.{ℕ}
 use lib.Dec.{T, eqb}
-use Rattle.refusal.proofs.Says.{says-only, says-told}
+use Rattle.refusal.proofs.Says.{says-only, says-more, says-told}
 use Rattle.refusal.specs.Says.{Says}
 use Rattle.refusal.specs.declared.Answer.{Answer}
 use Rattle.jobfile.specs.declared.reader.Event.{Event}
@@ -26,6 +26,12 @@ stops-halts n x = go (eqb n 255) (stops n) x
 -- the end is no stop
 end-no-stop : (n : ℕ) → n ≡ 255 → T (stops n) → ⊥
 end-no-stop n e x = rw e at x
+
+-- what follows of the number and the value
+pub tells-more : (P Q : ℕ → ℕ → Type 0) (r : Event) → ((n v : ℕ) → P n v → Q n v) → Tells r P → Tells r Q
+tells-more P Q (event.Request a) f x = says-more _ _ a (λ n v y. (y .0, f n v (y .1))) x
+tells-more P Q event.End f x = f 255 0 x
+tells-more P Q (event.Stopped n v) f x = (x .0, f n v (x .1))
 
 -- at the end and at a stop
 pub tells-halted : (P Q : ℕ → ℕ → Type 0) (r : Event) → ((answer : Answer) → r ≡ event.Request answer → ⊥) → ((n v : ℕ) → T (halts n) → P n v → Q n v) → Tells r P → Tells r Q

@@ -16,8 +16,8 @@ use Rattle.refusal.specs.Table.{passed as granted}
 use Rattle.refusal.specs.Says.{Says, value-of}
 use Rattle.refusal.proofs.Table.{table-free}
 use Rattle.refusal.proofs.Says.{says-told}
-use Rattle.book.specs.Told.{Book, part, held, jobs-of, latest-of, Made}
-use Rattle.plan.specs.Plan.{cores, horizon, unplaced, plan-of, finish-of, bytes-of, Plans}
+use Rattle.book.specs.Told.{cores, Book, part, held, jobs-of, latest-of, Made}
+use Rattle.plan.specs.Plan.{horizon, unplaced, plan-of, finish-of, bytes-of, Plans}
 use Rattle.plan.specs.Place.{core-of}
 use Rattle.plan.proofs.BookPlan.{book-plan, finish-fits}
 use Rattle.plan.proofs.Seats.{seat-of}

@@ -10,8 +10,8 @@ use lib.Dec.{eqb}
 use lib.ListN.{length, getD, length-append}
 use Rattle.report.specs.Line.{refused-line, jobs-line, core, slot-line, job-line}
 use Rattle.report.specs.Listing.{refused-lines, stop-line, slot-lines, job-text, job-lines, book-lines}
-use Rattle.book.specs.Told.{Book, latest-of, Made}
-use Rattle.plan.specs.Plan.{cores, finish-of, bytes-of}
+use Rattle.book.specs.Told.{cores, Book, latest-of, Made}
+use Rattle.plan.specs.Plan.{finish-of, bytes-of}
 use Rattle.plan.proofs.BookPlan.{book-plan, finish-fits}
 use Rattle.text.proofs.Decimal.{decimal-short}
 use Rattle.text.proofs.Each.{each-short}

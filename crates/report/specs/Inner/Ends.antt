@@ -4,8 +4,8 @@ use mathlib.Core.List.{List}
 use mathlib.Core.Path.{_≡_}
 use Prim.Native.Nat.{ℕ, zero, suc, _+_, _-_, _*_, _/_, _≤_, _<_}
 use lib.ListN.{length, getD, set, replicate}
-use Rattle.book.specs.Told.{part}
-use Rattle.plan.specs.Plan.{cores, horizon}
+use Rattle.book.specs.Told.{cores, part}
+use Rattle.plan.specs.Plan.{horizon}
 use Rattle.report.specs.Line.{job-line}
 
 -- the row once the first n bytes are passed: the entry of a byte is the end of the slot it stands in, and an idle core has one that nobody reads
