@@ -5,6 +5,7 @@ use mathlib.Core.Logic.{_⊎_, inl, inr}
 use mathlib.Core.Path.{_≡_, refl, ap, subst, sym, _∙_}
 use Prim.Native.Nat.{ℕ, _+_, _≤_, _<_}
 use native.Mathlib.Omega.{arith}
+use borrow.Author.Tests.{ne-eqb}
 use lib.Dec.{T}
 use lib.ListN.{length, drop}
 use Rattle.schedule.specs.Listed.{Listed}
@@ -23,6 +24,7 @@ use Rattle.records.specs.Record.{length-of, Stands}
 use Rattle.records.specs.Find.{find-checks}
 use Rattle.jobfile.specs.Reader.{Step, asks, Stays, Answers, ReadsRecord}
 use Rattle.jobfile.specs.Writer.{file-of, Output, output, WritesBook}
+use Rattle.firmware.specs.Plans.{FindsPlace}
 use Rattle.demands.specs.Demands.{Numbered, Demand1}
 
 -- ---- every number of the tables
@@ -55,6 +57,9 @@ place : (k : Book) (job n : ℕ) (values : List ℕ) → Places k job n values �
 place k job n values (refused c w x e) h = let number : n ≡ 5 = ap (λ r. r .0) e ∙ x .1 in (omega arith, omega arith)
 place k job n values (passed x e) h = absurd (omega (arith, ap (λ r. r .0) e))
 
+place-lent : (k : Book) (job n : ℕ) (old new : List ℕ) → FindsPlace k job old new n → 1 ≤ n → Numbered n × (new ≡ old)
+place-lent k job n old new x h = (place k job n (x .values) (x .places) h, x .told ∙ simp (ne-eqb n 0 (λ e. omega arith)))
+
 -- the numbers of a read's own checks: 9, the end, 11, 10
 stopped : (file : List ℕ) (at : ℕ) → Each (λ n. (n ≡ 255 → ⊥) → Numbered n) (find-checks file at)
 stopped file at = ((λ f. (omega arith, omega arith)), ((λ f. absurd (f refl)), ((λ f. (omega arith, omega arith)), λ f. (omega arith, omega arith))))
@@ -80,4 +85,4 @@ written k old new n v x h = go (x .outcome)
     go (passed y e) = absurd (omega (arith, ap (λ (p : Output). p .number) e))
 
 pub demand-1 : Demand1
-demand-1 = record { request = request; list = list; plan = plan; place = place; record-read = record-read; written = written }
+demand-1 = record { request = request; list = list; plan = plan; place = place; place-lent = place-lent; record-read = record-read; written = written }

@@ -26,6 +26,7 @@ use Rattle.records.specs.Record.{length-of, Stands}
 use Rattle.jobfile.specs.Reader.{Step, ReadsRecord}
 use Rattle.jobfile.specs.Writer.{WritesBook}
 use Rattle.jobfile.specs.RoundTrip.{ReadsBack}
+use Rattle.firmware.specs.Plans.{FindsPlace}
 
 -- ---- 1. "Each refusal has a number; the book of jobs is then as it was before the call, and so is every byte of lent memory."
 -- a number of the table (01, Numbers of refusal)
@@ -37,6 +38,8 @@ pub record Demand1 : Type 0 where
   pub list : (starts deadlines pairs old : List ℕ) (r : Judged) → Judges starts deadlines pairs old r → 1 ≤ r .number → Numbered (r .number) × (r .row ≡ old)
   pub plan : (k : Book) (old new : List ℕ) (n v : ℕ) → Plans k old new n v → 1 ≤ n → Numbered n × (new ≡ old)
   pub place : (k : Book) (job n : ℕ) (values : List ℕ) → Places k job n values → 1 ≤ n → Numbered n
+  -- the calls for firmware promise these same relations of lent memory, in numbers; a place goes into four lent numbers, and a refusal leaves them
+  pub place-lent : (k : Book) (job n : ℕ) (old new : List ℕ) → FindsPlace k job old new n → 1 ≤ n → Numbered n × (new ≡ old)
   -- one record read: a refused request moves the offset past its record, a stop leaves it; 255 is the end of the file and no refusal
   pub record-read : (k : Book) (file : List ℕ) (at : ℕ) (r : Step) → Made k → ReadsRecord k file at r → 1 ≤ r .number → (r .number ≡ 255 → ⊥) →
       Numbered (r .number) × (r .book ≡ k) × ((r .at ≡ at) ⊎ ((told : Record) × Stands file at told × (r .at ≡ at + length-of told)))
