@@ -2,6 +2,6 @@
 pub mod Chains
 pub mod Tighten
 pub mod Rows
-pub mod Times
+pub mod Numbers
 pub mod Requests
 pub mod List
