@@ -30,6 +30,7 @@ use Rattle.book.specs.Told.{Book, jobs-of, latest-of, row-in, Told}
 use Rattle.planner.specs.Requests.{plan-check}
 use Rattle.planner.specs.List.{first-of, second-of, pairs-of, list-of, Misshapen, order-at, Judged, judged, TurnedDown, Fitted, Judges}
 use Rattle.planner.specs.Inner.List.{Held}
+use Rattle.planner.proofs.Orders.{held-clear}
 use Rattle.planner.proofs.Pairs.{pairs-loopless}
 use Rattle.planner.proofs.Whole.{Sound}
 use Rattle.planner.proofs.ListOutcome.{sound-by, loops-last, sound-last}
@@ -153,7 +154,11 @@ looped = record {
     alone = sound starts deadlines (0 ∷ 1 ∷ []) tt (table .loop-first .holds .formed) (table .loop-first .holds .loopless)
 
     held : Held 2 pairs
-    held = record { below = says-all 2 (λ p. says-not (says-or (says-le 2 (first-of pairs p)) (says-le 2 (second-of pairs p)))) .read tt }
+    held = record {
+      below = λ p l.
+          let u = says-all 2 (λ p. says-and (says-lt (first-of pairs p) 2) (says-lt (second-of pairs p) 2)) .read tt p l in
+          held-clear p 2 (first-of pairs p) (second-of pairs p) (u .0) (u .1);
+    }
 
     go : (old : List ℕ) (r : Judged) → Table (places 2 (order-at pairs)) (TurnedDown old) (Table (plan-check (list-of starts deadlines pairs)) (TurnedDown old) (Fitted (list-of starts deadlines pairs) old)) r →
         r ≡ judged old 6 1

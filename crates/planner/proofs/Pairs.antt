@@ -10,7 +10,6 @@ use native.Mathlib.Omega.{arith}
 use lib.Dec.{T}
 use lib.ListN.{length, getD, replicate}
 use Rattle.schedule.specs.Listed.{ordered, Chain, link, join}
-use Rattle.schedule.proofs.Tests.{lt-by}
 use Rattle.schedule.proofs.Search.{split-last}
 use Rattle.schedule.proofs.Chains.{chain-grows, chain-held, ordered-append}
 use Rattle.sets.specs.Sets.{has}
@@ -20,6 +19,7 @@ use Rattle.planner.specs.Inner.Numbers.{Numbers}
 use Rattle.planner.specs.Inner.List.{Held, Spells, Closes, TakesIn}
 use Rattle.book.proofs.Empty.{zeros}
 use Rattle.sets.proofs.Bits.{empty-has}
+use Rattle.planner.proofs.Orders.{held-left, loop-left}
 
 -- a chain that was, or one through a before b
 abbrev Through : (ℕ → ℕ → Type 0) → ℕ → ℕ → ℕ → ℕ → Type 0
@@ -98,7 +98,7 @@ earned pairs rows p a b number s e f x = rw (e, f) at (x (pairs-of pairs p) p (s
 
 -- ---- what the checks leave
 pub held-both : (size : ℕ) (pairs : List ℕ) → Held size pairs → (p a b : ℕ) → p < length pairs / 2 → a ≡ first-of pairs p → b ≡ second-of pairs p → (a < size) × (b < size)
-held-both size pairs h p a b l e f = (lt-by a size (λ g. h .below p l (inl (omega arith))), lt-by b size (λ g. h .below p l (inr (omega arith))))
+held-both size pairs h p a b l e f = rw (e, f) (held-left p size (first-of pairs p) (second-of pairs p) (h .below p l))
 
 pub pairs-held : (size : ℕ) (pairs : List ℕ) → Held size pairs → (n : ℕ) → n ≤ length pairs / 2 → (a b : ℕ) → T (ordered (pairs-of pairs n) a b) → (a < size) × (b < size)
 unfolding pairs-of ordered
@@ -116,7 +116,7 @@ pub pairs-loopless : (pairs : List ℕ) (n : ℕ) → ((p : ℕ) → p < n → C
 unfolding pairs-of
 pairs-loopless pairs zero h x c = no-chain c
 pairs-loopless pairs (suc n) h x c =
-    ⊎-elim (λ u. pairs-loopless pairs n (λ p l. h p (omega arith)) x u) (λ u. h n (omega arith) (closes x (u .0) (u .1))) (pairs-grow pairs n x x .0 c)
+    ⊎-elim (λ u. pairs-loopless pairs n (λ p l. h p (omega arith)) x u) (λ u. ⊎-elim (left .0) (left .1) (closes x (u .0) (u .1))) (pairs-grow pairs n x x .0 c)
   where
     a : ℕ
     a = first-of pairs n
@@ -126,6 +126,9 @@ pairs-loopless pairs (suc n) h x c =
 
     C : ℕ → ℕ → Type 0
     C = Chain (pairs-of pairs n)
+
+    left : (a ≡ b → ⊥) × (C b a → ⊥)
+    left = loop-left n (pairs-of pairs n) a b (h n (omega arith))
 
     closes : (x : ℕ) → (x ≡ a) ⊎ C x a → (b ≡ x) ⊎ C b x → (a ≡ b) ⊎ C b a
     closes x (inl s) (inl t) = inl (sym (t ∙ s))

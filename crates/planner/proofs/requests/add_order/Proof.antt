@@ -61,7 +61,7 @@ returns-4 c = (
 sound : (c : tie.Else4) (L : Listed) → let s = c .before .before .before .before .before .before .before .before in Told (held (s .args .times .now) (s .args .before .now)) L → Sound L (Before (s .args .first) (s .args .second))
 sound c L t =
     let w = c .before .before .before .before .before .before .wide .ensures .0 in
-    (order-held L _ t _ _ (omega (arith, w)) (omega (arith, w)), order-free L _ t _ _ (omega (arith, w)) (omega (arith, w)) (c .before .before .before .if3 .left) (sym (c .before .has .ensures) ∙ c .if4 .left))
+    (order-held L _ t _ _ (omega (arith, w)) (omega (arith, w)), order-free L _ t _ _ (omega (arith, w)) (omega (arith, w)) (c .before .before .before .if3 .left) (false-T _ (sym (c .before .has .ensures) ∙ c .if4 .left)))
 
 mul-has-2 : tie.Need-mul-has-2
 mul-has-2 c = search needs
