@@ -23,9 +23,9 @@ use Rattle.plan.specs.Plan.{horizon, unplaced, Plans}
 use Rattle.plan.specs.Place.{Places}
 
 -- ---- 1. "Each refusal has a number; the book of jobs is then as it was before the call, and so is every byte of lent memory."
--- a number of the table (01, Numbers of refusal)
+-- a number of the table (01, Numbers of refusal; 02, A1: 12 and 13)
 abbrev pub Numbered : ℕ → Type 0
-Numbered n = (1 ≤ n) × (n ≤ 11)
+Numbered n = (1 ≤ n) × (n ≤ 13)
 
 pub record Demand1 : Type 0 where
   pub request : (k : Book) (q : Request) (r : Applied) → Made k → Applies k q r → 1 ≤ r .number → Numbered (r .number) × (r .book ≡ k)

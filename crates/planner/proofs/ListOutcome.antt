@@ -51,7 +51,7 @@ list-answer-only starts deadlines pairs row after next r s x y =
 
 -- ---- numbers
 pub rows-numbers : (starts deadlines pairs row : List ℕ) → Each (λ n. T (sound-number n)) (rows-checks starts deadlines pairs row)
-rows-numbers starts deadlines pairs row = (tt, (tt, ((λ i. (tt, tt)), ((λ p. tt), λ p. tt))))
+rows-numbers starts deadlines pairs row = (tt, (tt, ((λ i. (tt, tt)), ((λ p. (tt, tt)), λ p. (tt, tt)))))
 
 pub list-some : (starts deadlines pairs row : List ℕ) → Each (λ n. 1 ≤ n) (list-checks starts deadlines pairs row)
 list-some starts deadlines pairs row =
@@ -83,7 +83,7 @@ sound-by starts deadlines pairs formed loopless few jobs = record {
     n : ℕ
     n = length pairs / 2
 
--- what is left of the checks: 6 and 4 for jobs that pass, and 4 for a sound list
+-- what is left of the checks: 13, 6 and 4 for jobs that pass, and 4 for a sound list
 module _ (starts deadlines pairs row : List ℕ) (r : Judged) (m : Misshapen starts deadlines pairs row → ⊥) (j : Judges starts deadlines pairs row r) where
   pub loops-last : length starts ≤ 64 → ((i : ℕ) → i < length starts → Clear (job-at starts deadlines i)) → Held (length starts) pairs →
       Table (places (length pairs / 2) (order-at pairs)) (TurnedDown row) (Table (plan-check (list-of starts deadlines pairs)) (TurnedDown row) (Fitted (list-of starts deadlines pairs) row)) r

@@ -90,7 +90,7 @@ fn unheld_pair(pairs: &[u16], size: usize) -> Found
         }
         if named(pairs, 2 * p + 1).0 >= size {
             return Found {
-                number: 5,
+                number: 12,
                 place: p,
             };
         }
@@ -140,7 +140,7 @@ fn closes(rows: &[u64; 64], a: JobIndex, b: JobIndex) -> u8
 {
     let first = a.0;
     if first == b.0 {
-        return 6;
+        return 13;
     }
     if sets::has(rows[first], b) {
         return 6;

@@ -1,6 +1,6 @@
 -- `planner::list::closes` meets its contract.
 -- Assumes nothing.
-use mathlib.Core.Logic.{inl, inr, ⊎-elim}
+use mathlib.Core.Logic.{inl, inr}
 use mathlib.Core.Path.{refl, sym, _∙_}
 use native.Mathlib.Omega.{arith}
 use borrow.Author.Needs.{needs}
@@ -9,7 +9,7 @@ use Rattle.planner.proofs.list.closes.Statement.{statement}
 use Rattle.planner.proofs.list.closes.Tie as tie
 
 returns : tie.Need-returns
-returns c orders place e = record { none = λ z. absurd (omega arith); some = λ z. (inl (omega arith), refl, refl) }
+returns c orders place e = record { none = λ z. absurd (omega arith); some = λ z. inl (omega arith, refl, refl) }
 
 mul-has : tie.Need-mul-has
 mul-has c = search needs
@@ -21,11 +21,14 @@ has-requires : tie.Need-has-requires
 has-requires c κs = search needs
 
 returns-2 : tie.Need-returns-2
-returns-2 c orders place e = record { none = λ z. absurd (omega arith); some = λ z. (inr (e .0 (true-T _ (sym (c .before .has .ensures) ∙ c .if2 .taken))), refl, refl) }
+returns-2 c orders place e = record {
+  none = λ z. absurd (omega arith);
+  some = λ z. inr (c .before .before .before .if1 .left, (e .0 (true-T _ (sym (c .before .has .ensures) ∙ c .if2 .taken)), refl, refl));
+}
 
 returns-3 : tie.Need-returns-3
 returns-3 c orders place e = record {
-  none = λ z u. ⊎-elim (λ s. omega arith) (λ back. false-T _ (sym (c .before .has .ensures) ∙ c .if2 .left) (e .1 back)) u;
+  none = λ z. (c .before .before .before .if1 .left, λ back. false-T _ (sym (c .before .has .ensures) ∙ c .if2 .left) (e .1 back));
   some = λ z. absurd (z refl);
 }
 
