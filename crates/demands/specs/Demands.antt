@@ -14,7 +14,7 @@ use Rattle.schedule.specs.Make.{slots, bytes}
 use Rattle.schedule.specs.Listed.{Listed, Chain, Reads, written}
 use Rattle.schedule.specs.Book.{Holds}
 use Rattle.schedule.specs.declared.JobIndex.{JobIndex}
-use Rattle.book.specs.Told.{Book, cores, jobs-of, latest-of, Told, Made, nothing-listed}
+use Rattle.book.specs.Told.{Book, cores, jobs-of, latest-of, Told, Made}
 use Rattle.planner.specs.declared.requests.Request.{Request}
 use Rattle.planner.specs.declared.requests.Request.the-variants.{Before, Earlier}
 use Rattle.planner.specs.Requests.{Plannable, Sound, grow, accepts-with, Applied, answered, Applies, Run}
