@@ -9,7 +9,8 @@ use lib.ListN.{length}
 use Rattle.book.specs.Told.{Book, held}
 use Rattle.book.proofs.Parts.{part-length}
 use Rattle.planner.specs.Inner.Memory.{Limits}
-use Rattle.planner.proofs.IsBook.{whether-no, whether-as, Regular, made-regular, made-steady, regular-ready, steady-made}
+use Rattle.planner.proofs.Whether.{whether-no, whether-as}
+use Rattle.planner.proofs.IsBook.{Regular, made-regular, made-steady, regular-ready, steady-made}
 use Rattle.planner.proofs.memory.is_book.Statement.{statement}
 use Rattle.planner.proofs.memory.is_book.Tie as tie
 

@@ -8,7 +8,8 @@ use Rattle.book.specs.Told.{cores, part}
 use Rattle.planner.specs.Inner.Tighten.{Tightens}
 use Rattle.planner.proofs.Hands.{hands-all}
 use Rattle.planner.proofs.Pending.{nothing-ready, nothing-tight}
-use Rattle.planner.proofs.IsBook.{whether-no, whether-as, steady-yes, steady-same, steady-none}
+use Rattle.planner.proofs.Whether.{whether-no, whether-as}
+use Rattle.planner.proofs.IsBook.{steady-yes, steady-same, steady-none}
 use Rattle.planner.proofs.memory.steady.Statement.{statement}
 use Rattle.planner.proofs.memory.steady.Tie as tie
 
