@@ -24,10 +24,13 @@ use Rattle.sets.proofs.Bits.{or-has, empty-has, digits-same}
 use Rattle.sets.proofs.Range.{below-in}
 use Rattle.book.specs.Told.{Book, cores, part, jobs-in, jobs-of, latest-of, row-in, Made}
 use Rattle.book.proofs.Parts.{part-length, part-at}
+use Rattle.planner.specs.declared.chains.Pending.{Pending}
 use Rattle.planner.specs.Memory.{Whether}
+use Rattle.planner.specs.Inner.Chains.{nothing, joined-rows}
 use Rattle.planner.specs.Inner.Memory.{Limits, Sub, ChainedAt, Steady}
 use Rattle.planner.specs.Inner.Tighten.{Tightenable, Tightens}
 use Rattle.planner.proofs.Step.{false-T}
+use Rattle.planner.proofs.Pending.{nothing-ready, nothing-tight}
 use Rattle.planner.proofs.Whether.{whether-as}
 use Rattle.planner.proofs.Listing.{pairs-listed}
 
@@ -93,6 +96,14 @@ module _ (size : ℕ) (start before : List ℕ) (few : size ≤ 64) (x : (b : �
       (λ lt. x b lt .inside a t) (le-or-lt 64 b)
 
 -- ---- the latest times
+-- the engine is called on copies, with no order pending
+module _ (size : ℕ) (start before row given due : List ℕ) (p : Pending) (a : given ≡ start) (b : due ≡ row) (e : p ≡ nothing) (long : length before ≡ 64) where
+  pub copied-ready : Tightenable size start before row → (p .job .0 < 64) × Tightenable size given (joined-rows before p) due
+  copied-ready t = rw (a, b) (nothing-ready size start before row p e long t)
+
+  pub copied-tight : (next : List ℕ) (fits : Bool) → Tightens cores size given (joined-rows before p) due next fits → Tightens cores size start before row next fits
+  copied-tight next fits t = nothing-tight cores size start before row next fits p e long (rw (a, b) at t)
+
 module _ (size : ℕ) (start before row next : List ℕ) (fits : Bool) (ready : Tightenable size start before row) (t : Tightens cores size start before row next fits) where
   first : (early : ℕ → ℕ) × Earliest (jobs-in size start before) early
   first = exists-earliest (jobs-in size start before) (ready .closed) (ready .loopless)

@@ -88,7 +88,7 @@ regular c =
 
 steady-requires : tie.Need-steady-requires
 steady-requires c κs =
-    (long-before c, rw (size (first (second (third (c .before))))) (regular-ready (last c) (part-length 1 _ (omega (arith, long-times c))) (part-length 65 _ (long-times c)) (long-before c) (regular c)))
+    (part-length 1 _ (omega (arith, long-times c)), long-before c, rw (size (first (second (third (c .before))))) (regular-ready (last c) (part-length 1 _ (omega (arith, long-times c))) (part-length 65 _ (long-times c)) (long-before c) (regular c)))
 
 returns-5 : tie.Need-returns-5
 returns-5 c =
