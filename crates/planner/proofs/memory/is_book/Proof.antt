@@ -9,7 +9,8 @@ use lib.ListN.{length}
 use Rattle.book.specs.Told.{Book, held}
 use Rattle.book.proofs.Parts.{part-length}
 use Rattle.planner.specs.Inner.Memory.{Limits}
-use Rattle.planner.proofs.IsBook.{whether-no, whether-as, Regular, made-regular, made-steady, regular-ready, steady-made}
+use Rattle.planner.proofs.Whether.{whether-no, whether-as}
+use Rattle.planner.proofs.IsBook.{Regular, made-regular, made-steady, regular-ready, steady-made}
 use Rattle.planner.proofs.memory.is_book.Statement.{statement}
 use Rattle.planner.proofs.memory.is_book.Tie as tie
 
@@ -87,7 +88,7 @@ regular c =
 
 steady-requires : tie.Need-steady-requires
 steady-requires c κs =
-    (long-before c, rw (size (first (second (third (c .before))))) (regular-ready (last c) (part-length 1 _ (omega (arith, long-times c))) (part-length 65 _ (long-times c)) (long-before c) (regular c)))
+    (part-length 1 _ (omega (arith, long-times c)), long-before c, rw (size (first (second (third (c .before))))) (regular-ready (last c) (part-length 1 _ (omega (arith, long-times c))) (part-length 65 _ (long-times c)) (long-before c) (regular c)))
 
 returns-5 : tie.Need-returns-5
 returns-5 c =
