@@ -12,8 +12,7 @@ use lib.Seq.{getD-append-add, getD-drop}
 use Rattle.schedule.proofs.Tests.{le-or-lt}
 use Rattle.schedule.specs.Listed.{Listed}
 use Rattle.refusal.specs.Table.{Refuses}
-use Rattle.refusal.specs.Says.{number-of, value-of}
-use Rattle.refusal.proofs.Says.{says-told, says-more}
+use Rattle.refusal.proofs.Says.{says-more}
 use Rattle.refusal.proofs.Table.{Each, among-each, table-all}
 use Rattle.planner.specs.declared.requests.Request.{Request}
 use Rattle.planner.specs.declared.requests.Request.the-variants.{Job, Before, Earlier}
@@ -33,11 +32,11 @@ use Rattle.report.specs.Listing.{refused-lines, stop-line}
 use Rattle.report.proofs.Ends.{each-same}
 
 -- ---- why it ended
--- two promises of one event are of one number and one value
-pub tells-both : (P Q : ℕ → ℕ → Type 0) (r : Event) → Tells r P → Tells r Q → (n : ℕ) × (v : ℕ) × P n v × Q n v
-tells-both P Q (event.Request a) x y = (number-of a, value-of a, says-told _ a x .1, says-told _ a y .1)
-tells-both P Q event.End x y = (255, 0, x, y)
-tells-both P Q (event.Stopped n v) x y = (n, v, x .1, y .1)
+-- what follows of the number and the value
+pub tells-more : (P Q : ℕ → ℕ → Type 0) (r : Event) → ((n v : ℕ) → P n v → Q n v) → Tells r P → Tells r Q
+tells-more P Q (event.Request a) f x = says-more _ _ a (λ n v y. (y .0, f n v (y .1))) x
+tells-more P Q event.End f x = f 255 0 x
+tells-more P Q (event.Stopped n v) f x = (x .0, f n v (x .1))
 
 -- the last read of a file that is not too long
 pub record Ending (number value : ℕ) : Type 0 where

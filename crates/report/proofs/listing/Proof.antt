@@ -18,7 +18,7 @@ abbrev book : tie.After-read-file → Book
 book f = let o = f .before .before .before .before in held (o .«open» .last .0) (o .«open» .last .1 .0)
 
 -- the file read
-read : (f : tie.After-read-file) → FileRead (start f .args .file .now) (book f) 4096 (f .read-file .last .1 .1 .1 .0) (held (f .read-file .last .0) (f .read-file .last .1 .0)) (f .read-file .result .at) (f .read-file .result .event)
+read : (f : tie.After-read-file) → FileRead (start f .args .file .now) (book f) 4096 (f .read-file .last .1 .1 .1 .0) (held (f .read-file .last .0) (f .read-file .last .1 .0)) (f .read-file .result .records) (f .read-file .result .at) (f .read-file .result .event)
 read f = record { bytes = refl; empty = f .before .before .before .before .«open» .ensures; fits = omega arith; tells = f .read-file .ensures }
 
 too-long-requires : tie.Need-too-long-requires
