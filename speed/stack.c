@@ -17,6 +17,7 @@ static uint8_t number;
 
 static void nothing(void) {}
 static void opened(void) { planner_open(&held); }
+static void is_book(void) { number = !planner_is_book(&held); }
 static void job(void) { number = planner_add_job(&held, 0, 40, &value); }
 static void order(void) { number = planner_add_order(&held, 60, 61, &value); }
 static void drawn(void) { number = planner_draw_in(&held, 63, 20, &value); }
@@ -83,6 +84,7 @@ int main(void) {
     size_t floor = used(nothing);
     printf("| Function | bytes of stack |\n|---|---|\n");
     tell("open", opened, floor);
+    tell("is_book", is_book, floor);
     tell("add_job", job, floor);
     tell("add_order", order, floor);
     tell("draw_in", drawn, floor);

@@ -25,7 +25,9 @@ int main(void) {
     size_t value = 9, at = 0, length;
 
     memset(&book, 0xa5, sizeof book);
+    HOLDS(planner_is_book(&book) == 0);
     planner_open(&book);
+    HOLDS(planner_is_book(&book) == 1);
     HOLDS(book.size == 0 && book.start[63] == 0 && book.latest[63] == 0 && book.before[63] == 0);
 
     /* nothing lent */
@@ -47,6 +49,12 @@ int main(void) {
     HOLDS(planner_read(&copy, bytes, length, &at, &value) == 0 && value == 0 && at == 6);
     HOLDS(planner_read(&copy, bytes, length, &at, &value) == PLANNER_END && at == 6);
     HOLDS(same(&book, &copy));
+
+    /* a damaged book is told; one that requests can make is a book, whoever filled it */
+    copy.before[0] = 1;
+    HOLDS(planner_is_book(&copy) == 0);
+    copy.before[0] = 0;
+    HOLDS(planner_is_book(&copy) == 1);
     at = 0;
     HOLDS(planner_read(&copy, (const uint8_t *)"TG\0\11\0\1", 6, &at, &value) == 5 && at == 6);
     HOLDS(planner_read(&copy, bytes, 5, &at, &value) == 11 && value == 6 && at == 6);

@@ -4,7 +4,8 @@
  * allocates, waits or keeps anything: all memory is lent by the caller for the time of the call.
  *
  * A book is opened by planner_open and changed by the functions here alone; its fields are there to be read.
- * A book that was filled in any other way, and places lent to one call that overlap, are outside every promise.
+ * A book that was filled in any other way is outside every promise, unless planner_is_book says that it is one; so are
+ * places lent to one call that overlap.
  * A row or bytes of length 0 may be lent as NULL; nothing else may be NULL.
  *
  * A call that can refuse answers 0 where it accepts, else the number of the refusal, and *value is what goes with it:
@@ -24,7 +25,7 @@
  *   13  order of a job before itself                                          as 5
  *
  * A refusal leaves the book and every lent row, byte and number as it was, but for *value and, where planner_read
- * read a request that is then refused, for the offset. planner_open and planner_class refuse nothing.
+ * read a request that is then refused, for the offset. planner_open, planner_is_book and planner_class refuse nothing.
  */
 #ifndef PLANNER_H
 #define PLANNER_H
@@ -72,6 +73,7 @@ struct planner_seat {
 
 /* What the library exports: a book as its row of 129 numbers and its 64 sets, a row as pointer and length. */
 void firmware_open(uint16_t *, uint64_t *);
+uint8_t firmware_is_book(const uint16_t *, const uint64_t *);
 uint8_t firmware_add_job(uint16_t *, uint64_t *, uint16_t, uint16_t, size_t *);
 uint8_t firmware_add_order(uint16_t *, uint64_t *, uint16_t, uint16_t, size_t *);
 uint8_t firmware_draw_in(uint16_t *, uint64_t *, uint16_t, uint16_t, size_t *);
@@ -85,6 +87,11 @@ uint8_t firmware_class(uint8_t);
 /* An empty book, whatever the memory held. It answers nothing. */
 static inline void planner_open(struct planner_book *book) {
     firmware_open(&book->size, book->before);
+}
+
+/* 1 where the memory holds a book that requests can make, and 0 for anything else: for one that was kept elsewhere. */
+static inline uint8_t planner_is_book(const struct planner_book *book) {
+    return firmware_is_book(&book->size, book->before);
 }
 
 /* A new job; *value is its number. Refusals in this order: 1, 2, 3, 4. */

@@ -57,6 +57,14 @@ impl Held {
         (self.times.lend().cast(), self.before.lend().cast())
     }
 
+    /// Rows that may be a book or not, at most one cell away from this one, and whether they are told to be one.
+    pub fn damaged(&self, change: impl FnOnce(&mut [u16], &mut [u64])) -> (Vec<u16>, Vec<u64>, u8) {
+        let (mut times, mut before) = (self.times.row().to_vec(), self.before.row().to_vec());
+        change(&mut times, &mut before);
+        let told = unsafe { raw::firmware_is_book(times.as_ptr().cast(), before.as_ptr().cast()) };
+        (times, before, told)
+    }
+
     /// The number and the value that a call left, as an answer.
     fn answer(&mut self, number: u8) -> Answer {
         let value = self.value.row()[0];

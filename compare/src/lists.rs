@@ -148,4 +148,15 @@ pub fn asked(random: &mut Random, book: &Book, held: &mut Held, tally: &mut Tall
         hold(want == out.row() && out.kept(), "bytes of the file", &want, &out.row(), text);
     }
     hold(held.is(book), "the book after it was asked", &book.latest, &held.text(), text);
+    for k in 0..4 {
+        let (times, before, told) = held.damaged(|times, before| {
+            if k > 0 {
+                random.damage(times, before)
+            }
+        });
+        let wanted = reference::is_book(&times, &before);
+        hold(wanted as u8 == told, "is it a book", &wanted, &(told, &times, &before), text);
+        hold(k > 0 || wanted, "a book that requests made is one", &true, &wanted, text);
+        tally.books[wanted as usize] += 1;
+    }
 }

@@ -98,6 +98,23 @@ impl Random {
         }
     }
 
+    /// One cell of a book's rows changed, mostly one of a job held or of the next.
+    pub fn damage(&mut self, times: &mut [u16], before: &mut [u64]) {
+        let reach = if self.one_in(4) { 64 } else { (times[0] as usize + 1).min(64) };
+        let job = self.below(reach);
+        let cell = match self.below(8) {
+            0 => &mut times[0],
+            1..=2 => &mut times[1 + job],
+            3..=5 => &mut times[65 + job],
+            _ => return before[job] ^= 1 << self.below(reach),
+        };
+        *cell = match self.below(5) {
+            0 => self.wild(),
+            1..=2 => cell.wrapping_sub(1),
+            _ => cell.wrapping_add(1),
+        };
+    }
+
     /// A file with some of its bytes changed, cut or added.
     pub fn damaged(&mut self, file: &[u8]) -> Vec<u8> {
         let mut bytes = file.to_vec();

@@ -369,6 +369,26 @@ pub fn judge(starts: &[u16], deadlines: &[u16], pairs: &[u16], latest: &mut [u16
     Ok(0)
 }
 
+/// Whether two rows are a book made by requests: the book of the list that they spell, that is.
+pub fn is_book(times: &[u16], before: &[u64]) -> bool {
+    let n = times[0] as usize;
+    if n > JOBS {
+        return false;
+    }
+    let (starts, latest) = (&times[1..=n], &times[65..65 + n]);
+    let pairs = (0..JOBS).flat_map(|a| (0..JOBS).map(move |b| (a, b)));
+    let orders: Vec<(usize, usize)> = pairs.filter(|&(a, b)| before[b] >> a & 1 == 1).collect();
+    let flat: Vec<u16> = orders.iter().flat_map(|&(a, b)| [a as u16, b as u16]).collect();
+    let mut row = vec![0; n];
+    let nothing_beyond = times[n + 1..65].iter().chain(&times[n + 65..]).all(|&time| time == 0);
+    if !nothing_beyond || judge(starts, latest, &flat, &mut row) != Ok(0) {
+        return false;
+    }
+    let list = List { starts: starts.to_vec(), deadlines: latest.to_vec(), orders: orders.clone() };
+    let chains = list.precedes().concat().iter().filter(|&&precedes| precedes).count();
+    row == latest && chains == orders.len()
+}
+
 /// 0 none, 1 room, 2 request, 3 plan, 4 form.
 pub fn class(number: u8) -> u8 {
     match number {

@@ -12,6 +12,8 @@ pub struct Tally {
     pub requests: u64,
     pub accepted: u64,
     pub records: u64,
+    /// rows that are no book, and rows that are one
+    pub books: [u64; 2],
     pub refusals: [u64; 12],
 }
 

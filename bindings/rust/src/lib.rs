@@ -145,6 +145,23 @@ impl Book {
         book
     }
 
+    /// The two rows of a book, to be kept elsewhere.
+    pub fn rows(&self) -> (&raw::Times, &raw::Before) {
+        let (times, before) = self.show();
+        unsafe { (&*times, &*before) }
+    }
+
+    /// The book of two rows that were kept; none where no requests make such a book.
+    pub fn of_rows(times: &raw::Times, before: &raw::Before) -> Option<Book> {
+        if unsafe { raw::firmware_is_book(times, before) } == 0 {
+            return None;
+        }
+        let mut book = Book::open();
+        let lent = book.lend();
+        unsafe { (*lent.0, *lent.1) = (*times, *before) }
+        Some(book)
+    }
+
     /// The two parts that the library takes, to be changed.
     fn lend(&mut self) -> (*mut raw::Times, *mut raw::Before) {
         let book = &raw mut *self;

@@ -1,5 +1,6 @@
 //! The functions of the static library as they are: a book is lent as its two parts, a row as pointer and length.
-//! Each book must be one that `firmware_open` and these functions made; no two of the lent places may overlap.
+//! Each book must be one that `firmware_open` and these functions made, or that `firmware_is_book` told to be one; no two
+//! of the lent places may overlap.
 
 /// The number of jobs, then by job 64 starts and 64 latest times.
 pub type Times = [u16; 129];
@@ -10,6 +11,8 @@ pub type Before = [u64; 64];
 unsafe extern "C" {
     /// An empty book, whatever the memory held.
     pub fn firmware_open(times: *mut Times, before: *mut Before);
+    /// 1 for a book that requests can make, 0 for anything else.
+    pub fn firmware_is_book(times: *const Times, before: *const Before) -> u8;
     /// Answers 0 or the number of the refusal; `value` gets what goes with it, as in the calls that follow.
     pub fn firmware_add_job(times: *mut Times, before: *mut Before, start: u16, deadline: u16, value: *mut usize) -> u8;
     /// Job `first` before job `second`.

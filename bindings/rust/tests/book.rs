@@ -49,6 +49,16 @@ fn what_a_book_holds_is_told() {
 }
 
 #[test]
+fn rows_are_kept_and_come_back() {
+    let book = three_levels();
+    let (times, mut before) = (*book.rows().0, *book.rows().1);
+    assert_eq!((times[0], &times[1..4], &times[65..68], before[2]), (3, &[0, 0, 1][..], &[2, 2, 3][..], 3));
+    assert_eq!(Book::of_rows(&times, &before), Some(book));
+    before[0] = 4;
+    assert_eq!(Book::of_rows(&times, &before), None);
+}
+
+#[test]
 fn plan_and_place() {
     let book = three_levels();
     let mut plan = [7; 6];

@@ -16,7 +16,7 @@ pub extern "C" fn firmware_open(times: &mut Times, before: &mut Before)
 
 // 1 where the memory holds a book made by requests, and 0 for anything else.
 #[no_mangle]
-pub extern "C" fn firmware_is_book<'a>(times: &'a Times, before: &'a Before) -> u8
+pub extern "C" fn firmware_is_book(times: &Times, before: &Before) -> u8
     ensures { λ r. ⌜ TellsBook (held (now (times .entry)) (now (before .entry))) r ⌝ }
 {
     if planner::is_book(times, before) {

@@ -1,20 +1,20 @@
 -- Memory is a book made by requests exactly where it is shaped as one, its sets are closed under chains without a loop, and its latest times are consistent.
 -- Assumes nothing.
 use mathlib.Core.Bool.{Bool, true, false}
-use mathlib.Core.List.{List, []}
-use mathlib.Core.Logic.{_↔_, _⊎_, inl, inr, ⊎-elim}
+use mathlib.Core.List.{List}
+use mathlib.Core.Logic.{_↔_, ⊎-elim}
 use mathlib.Core.Path.{_≡_, refl, sym, ap, subst, _∙_}
-use Prim.Native.Nat.{ℕ, zero, suc, _+_, _≤_, _<_}
+use Prim.Native.Nat.{ℕ, _+_, _≤_, _<_}
 use native.Mathlib.Nat.{le-antisymm}
 use native.Mathlib.Omega.{arith}
 use lib.Bits.{bitOr}
-use lib.Dec.{T, eqb, eqb→eq}
+use lib.Dec.{T}
 use lib.ListN.{length, getD, take, List·getD-eq-default}
 use lib.Seq.{ext-getD, getD-take, length-take-le}
-use Rattle.schedule.specs.Jobs.{Jobs, Closed, Loopless}
-use Rattle.schedule.specs.Times.{Earliest, Consistent}
+use Rattle.schedule.specs.Jobs.{Closed, Loopless}
+use Rattle.schedule.specs.Times.{Earliest}
 use Rattle.schedule.specs.Listed.{Listed, ordered, Chain, link, join, written}
-use Rattle.schedule.proofs.Tests.{le-or-lt, same-test, or-left, or-right, or-split, eq→eqb, says-and, says-lt, says-not, says-eq}
+use Rattle.schedule.proofs.Tests.{le-or-lt, same-test, or-left, or-right, or-split, says-and, says-lt, says-not, says-eq}
 use Rattle.schedule.proofs.Early.{exists-earliest}
 use Rattle.schedule.proofs.Made.{row-has-plan}
 use Rattle.schedule.proofs.Chains.{reads-closed, reads-loopless}
@@ -24,31 +24,15 @@ use Rattle.sets.proofs.Bits.{or-has, empty-has, digits-same}
 use Rattle.sets.proofs.Range.{below-in}
 use Rattle.book.specs.Told.{Book, cores, part, jobs-in, jobs-of, latest-of, row-in, Made}
 use Rattle.book.proofs.Parts.{part-length, part-at}
+use Rattle.planner.specs.declared.chains.Pending.{Pending}
 use Rattle.planner.specs.Memory.{Whether}
+use Rattle.planner.specs.Inner.Chains.{nothing, joined-rows}
 use Rattle.planner.specs.Inner.Memory.{Limits, Sub, ChainedAt, Steady}
 use Rattle.planner.specs.Inner.Tighten.{Tightenable, Tightens}
-use Rattle.planner.proofs.Step.{true-T, false-T}
+use Rattle.planner.proofs.Step.{false-T}
+use Rattle.planner.proofs.Pending.{nothing-ready, nothing-tight}
+use Rattle.planner.proofs.Whether.{whether-as}
 use Rattle.planner.proofs.Listing.{pairs-listed}
-
--- ---- an answer of yes or no
-pub whether-yes : {P : Type 0} → P → Whether P true
-whether-yes p = record { yes = λ e. p; no = λ e x. subst T e tt }
-
-pub whether-no : {P : Type 0} → (P → ⊥) → Whether P false
-whether-no f = record { yes = λ e. absurd (subst T (sym e) tt); no = λ e x. f x }
-
-pub whether-as : {P Q : Type 0} {r : Bool} → (P → Q) → (Q → P) → Whether P r → Whether Q r
-whether-as f g w = record { yes = λ e. f (w .yes e); no = λ e x. w .no e (g x) }
-
-pub whether-eq : {P : Type 0} (x y : ℕ) → (x ≡ y → P) → (P → x ≡ y) → Whether P (eqb x y)
-whether-eq x y f g = record { yes = λ e. f (eqb→eq x y (true-T _ e)); no = λ e p. false-T _ e (eq→eqb x y (g p)) }
-
--- there is one answer
-pub whether-only : (P : Type 0) (r s : Bool) → Whether P r → Whether P s → r ≡ s
-whether-only P true true v w = refl
-whether-only P true false v w = absurd (w .no refl (v .yes refl))
-whether-only P false true v w = absurd (v .no refl (w .yes refl))
-whether-only P false false v w = refl
 
 -- ---- one set in another
 pub or-sub : (x y : ℕ) → bitOr x y ≡ y → Sub x y
@@ -112,6 +96,14 @@ module _ (size : ℕ) (start before : List ℕ) (few : size ≤ 64) (x : (b : �
       (λ lt. x b lt .inside a t) (le-or-lt 64 b)
 
 -- ---- the latest times
+-- the engine is called on copies, with no order pending
+module _ (size : ℕ) (start before row given due : List ℕ) (p : Pending) (a : given ≡ start) (b : due ≡ row) (e : p ≡ nothing) (long : length before ≡ 64) where
+  pub copied-ready : Tightenable size start before row → (p .job .0 < 64) × Tightenable size given (joined-rows before p) due
+  copied-ready t = rw (a, b) (nothing-ready size start before row p e long t)
+
+  pub copied-tight : (next : List ℕ) (fits : Bool) → Tightens cores size given (joined-rows before p) due next fits → Tightens cores size start before row next fits
+  copied-tight next fits t = nothing-tight cores size start before row next fits p e long (rw (a, b) at t)
+
 module _ (size : ℕ) (start before row next : List ℕ) (fits : Bool) (ready : Tightenable size start before row) (t : Tightens cores size start before row next fits) where
   first : (early : ℕ → ℕ) × Earliest (jobs-in size start before) early
   first = exists-earliest (jobs-in size start before) (ready .closed) (ready .loopless)

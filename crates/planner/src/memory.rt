@@ -15,7 +15,7 @@ ghost use Rattle.planner.specs.Inner.Memory.{Limits, Sub, ChainedAt, Ste
 ghost use Rattle.planner.specs.Inner.Tighten.{Tightenable};
 
 // Of any memory at all: true exactly where the book in it was made by requests.
-pub fn is_book<'a>(times: &'a Times, before: &'a Before) -> bool
+pub fn is_book(times: &Times, before: &Before) -> bool
     ensures { λ r. ⌜ Whether (Made (held (now (times .entry)) (now (before .entry)))) r ⌝ }
 {
     let size = wide(times[0]);
@@ -97,13 +97,16 @@ fn part_of(set: u64, all: u64) -> bool
 }
 
 // Whether tightening the latest times changes nothing.
-fn steady<'a>(size: usize, times: &'a Times, before: &'a Before) -> bool
-    requires { ⌜ (length (now before) ≡ 64) × Tightenable size (part 1 (now times)) (now before) (part 65 (now times)) ⌝ }
+fn steady(size: usize, times: &Times, before: &Before) -> bool
+    requires { ⌜ (length (part 1 (now times)) ≡ 64) × (length (now before) ≡ 64) × Tightenable size (part 1 (now times)) (now before) (part 65 (now times)) ⌝ }
     ensures { λ r. ⌜ Whether (Steady size (part 1 (now (times .entry))) (now (before .entry)) (part 65 (now (times .entry)))) r ⌝ }
 {
+    // copied, since the engine takes starts and sets of one lifetime
+    let mut start = [0u16; 64];
+    rows::hand_over(book::starts(times), 64, &mut start);
     let mut row = [0u16; 64];
     rows::hand_over(book::latest(times), 64, &mut row);
-    if tighten::tighten(size, book::starts(times), before, Pending::none(), &mut row) {
+    if tighten::tighten(size, &start, before, Pending::none(), &mut row) {
         return same(book::latest(times), &row);
     }
     false

@@ -1,10 +1,10 @@
 -- What a whole file read tells the listing: why it ended, and the numbers in the bytes lent.
 -- Assumes nothing.
 use mathlib.Core.Bool.{Bool, true, false, cond, not, _||_}
-use mathlib.Core.List.{List, [], _∷_, _++_, append-nil}
+use mathlib.Core.List.{List, [], _++_, append-nil}
 use mathlib.Core.Logic.{inl, inr, ⊎-elim}
-use mathlib.Core.Path.{_≡_, refl, sym, ap, ap₂, _∙_}
-use Prim.Native.Nat.{ℕ, zero, suc, _+_, _-_, _*_, _≤_, _<_}
+use mathlib.Core.Path.{_≡_, refl, ap, _∙_}
+use Prim.Native.Nat.{ℕ, zero, suc, _+_, _-_, _≤_, _<_}
 use native.Mathlib.Omega.{arith}
 use lib.Dec.{T, eqb, eqb→eq}
 use lib.ListN.{length, getD, drop, replicate, length-append, List·getD-append}
@@ -12,8 +12,7 @@ use lib.Seq.{getD-append-add, getD-drop}
 use Rattle.schedule.proofs.Tests.{le-or-lt}
 use Rattle.schedule.specs.Listed.{Listed}
 use Rattle.refusal.specs.Table.{Refuses}
-use Rattle.refusal.specs.Says.{number-of, value-of}
-use Rattle.refusal.proofs.Says.{says-told, says-more}
+use Rattle.refusal.proofs.Says.{says-more}
 use Rattle.refusal.proofs.Table.{Each, among-each, table-all}
 use Rattle.planner.specs.declared.requests.Request.{Request}
 use Rattle.planner.specs.declared.requests.Request.the-variants.{Job, Before, Earlier}
@@ -31,13 +30,6 @@ use Rattle.text.specs.Put.{Puts}
 use Rattle.report.specs.Line.{refused-line, stopped-line}
 use Rattle.report.specs.Listing.{refused-lines, stop-line}
 use Rattle.report.proofs.Ends.{each-same}
-
--- ---- why it ended
--- two promises of one event are of one number and one value
-pub tells-both : (P Q : ℕ → ℕ → Type 0) (r : Event) → Tells r P → Tells r Q → (n : ℕ) × (v : ℕ) × P n v × Q n v
-tells-both P Q (event.Request a) x y = (number-of a, value-of a, says-told _ a x .1, says-told _ a y .1)
-tells-both P Q event.End x y = (255, 0, x, y)
-tells-both P Q (event.Stopped n v) x y = (n, v, x .1, y .1)
 
 -- the last read of a file that is not too long
 pub record Ending (number value : ℕ) : Type 0 where

@@ -6,7 +6,7 @@ use borrow.Author.Count.{below-none, below-more}
 use borrow.Author.Needs.{needs}
 use borrow.Author.Tests.{not-true, not-false}
 use Rattle.planner.specs.Inner.Memory.{ChainedAt}
-use Rattle.planner.proofs.IsBook.{whether-yes, whether-no}
+use Rattle.planner.proofs.Whether.{whether-yes, whether-no}
 use Rattle.planner.proofs.memory.chained.Statement.{statement}
 use Rattle.planner.proofs.memory.chained.Tie as tie
 

@@ -11,7 +11,8 @@ use Rattle.schedule.specs.Count.{count}
 use Rattle.sets.specs.Sets.{has}
 use Rattle.sets.proofs.Bits.{rest-less, walk-sub, walk-split, has-some}
 use Rattle.planner.specs.Inner.Memory.{Sub}
-use Rattle.planner.proofs.IsBook.{whether-yes, whether-no, beyond-chained, chained-part, part-chained}
+use Rattle.planner.proofs.Whether.{whether-yes, whether-no}
+use Rattle.planner.proofs.IsBook.{beyond-chained, chained-part, part-chained}
 use Rattle.planner.proofs.memory.chained_at.Statement.{statement}
 use Rattle.planner.proofs.memory.chained_at.Tie as tie
 

@@ -9,7 +9,8 @@ use lib.ListN.{length}
 use Rattle.book.specs.Told.{Book, held}
 use Rattle.book.proofs.Parts.{part-length}
 use Rattle.planner.specs.Inner.Memory.{Limits}
-use Rattle.planner.proofs.IsBook.{whether-no, whether-as, Regular, made-regular, made-steady, regular-ready, steady-made}
+use Rattle.planner.proofs.Whether.{whether-no, whether-as}
+use Rattle.planner.proofs.IsBook.{Regular, made-regular, made-steady, regular-ready, steady-made}
 use Rattle.planner.proofs.memory.is_book.Statement.{statement}
 use Rattle.planner.proofs.memory.is_book.Tie as tie
 
@@ -70,6 +71,9 @@ last c = book (first (second (third (c .before))) .before .before)
 long-times : (c : tie.Else4) → 129 ≤ length (first (second (third (c .before))) .before .before .args .times .now)
 long-times c = omega (arith, second (third (c .before)) .before .limited-arg .given)
 
+long-start : (c : tie.Else4) → length (last c .start) ≡ 64
+long-start c = part-length 1 _ (omega (arith, long-times c))
+
 long-before : (c : tie.Else4) → length (last c .before) ≡ 64
 long-before c = omega (arith, c .before .before .chained-arg .given)
 
@@ -87,14 +91,14 @@ regular c =
 
 steady-requires : tie.Need-steady-requires
 steady-requires c κs =
-    (long-before c, rw (size (first (second (third (c .before))))) (regular-ready (last c) (part-length 1 _ (omega (arith, long-times c))) (part-length 65 _ (long-times c)) (long-before c) (regular c)))
+    (long-start c, long-before c, rw (size (first (second (third (c .before))))) (regular-ready (last c) (long-start c) (part-length 65 _ (long-times c)) (long-before c) (regular c)))
 
 returns-5 : tie.Need-returns-5
 returns-5 c =
     let b = c .before in
     let e = size (first (second (third (b .before)))) in
     whether-as
-    (λ x. steady-made (last b) (part-length 1 _ (omega (arith, long-times b))) (part-length 65 _ (long-times b)) (long-before b) (regular b) (rw e at x))
+    (λ x. steady-made (last b) (long-start b) (part-length 65 _ (long-times b)) (long-before b) (regular b) (rw e at x))
     (λ m. rw e (made-steady _ m))
     (c .steady .ensures)
 

@@ -6,7 +6,8 @@ use native.Mathlib.Omega.{arith}
 use borrow.Author.Count.{below-none, below-more}
 use borrow.Author.Needs.{needs}
 use lib.ListN.{getD}
-use Rattle.planner.proofs.IsBook.{whether-yes, whether-no, Kept, limits-part, limits-at}
+use Rattle.planner.proofs.Whether.{whether-yes, whether-no}
+use Rattle.planner.proofs.IsBook.{Kept, limits-part, limits-at}
 use Rattle.planner.proofs.memory.limited.Statement.{statement}
 use Rattle.planner.proofs.memory.limited.Tie as tie
 

@@ -1,6 +1,7 @@
 -- `planner::memory::part_of` meets its contract.
 -- Assumes nothing.
-use Rattle.planner.proofs.IsBook.{whether-eq, or-sub, sub-or}
+use Rattle.planner.proofs.Whether.{whether-eq}
+use Rattle.planner.proofs.IsBook.{or-sub, sub-or}
 use Rattle.planner.proofs.memory.part_of.Statement.{statement}
 use Rattle.planner.proofs.memory.part_of.Tie as tie
 

@@ -8,7 +8,7 @@ use borrow.Author.Count.{below-none, below-more}
 use borrow.Author.Needs.{needs}
 use lib.ListN.{getD}
 use lib.Seq.{ext-getD}
-use Rattle.planner.proofs.IsBook.{whether-yes, whether-no}
+use Rattle.planner.proofs.Whether.{whether-yes, whether-no}
 use Rattle.planner.proofs.memory.same.Statement.{statement}
 use Rattle.planner.proofs.memory.same.Tie as tie
 
