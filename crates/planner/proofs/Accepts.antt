@@ -29,7 +29,7 @@ use Rattle.sets.proofs.Range.{with-is}
 use Rattle.schedule.proofs.Same.{reads-one, plan-one}
 use Rattle.refusal.proofs.Table.{then-table}
 use Rattle.planner.proofs.Outcome.{applies-by}
-use Rattle.planner.proofs.Step.{Grows, size-is, job-grows, order-grows, followed-told, told-last, Tight, tight-last}
+use Rattle.planner.proofs.Growing.{Grows, size-is, job-grows, order-grows, followed-told, told-last, Tight, tight-last}
 use Rattle.book.proofs.Parts.{with-latest}
 use Rattle.planner.proofs.Pending.{entries-length, entries-at, rows-long, joined-links}
 

@@ -13,7 +13,7 @@ use Rattle.planner.specs.Inner.List.{Spells}
 use Rattle.refusal.proofs.Table.{refuses-each}
 use Rattle.refusal.specs.Table.{refused}
 use Rattle.planner.proofs.Pairs.{spells-none}
-use Rattle.planner.proofs.Whole.{none-at, number-at, Sound, sound-settleable, settles-says}
+use Rattle.planner.proofs.ListSound.{none-at, number-at, Sound, sound-settleable, settles-says}
 use Rattle.planner.proofs.list.judge.Statement.{statement}
 use Rattle.planner.proofs.list.judge.Tie as tie
 

@@ -9,7 +9,7 @@ use lib.ListN.{length}
 use Rattle.planner.specs.List.{order-at}
 use Rattle.refusal.specs.Table.{Clear}
 use Rattle.planner.specs.Inner.List.{Spells}
-use Rattle.planner.proofs.Step.{true-T, false-T}
+use Rattle.planner.proofs.Growing.{true-T, false-T}
 use Rattle.planner.proofs.Pairs.{held-both, looping-is, spells-more, spells-held}
 use Rattle.planner.proofs.list.looping_pair.Statement.{statement}
 use Rattle.planner.proofs.list.looping_pair.Tie as tie
