@@ -32,7 +32,7 @@ use Rattle.planner.specs.List.{first-of, second-of, pairs-of, list-of, Misshape
 use Rattle.planner.specs.Inner.List.{Held}
 use Rattle.planner.proofs.Orders.{held-clear}
 use Rattle.planner.proofs.Pairs.{pairs-loopless}
-use Rattle.planner.proofs.Whole.{Sound}
+use Rattle.planner.proofs.ListSound.{Sound}
 use Rattle.planner.proofs.ListOutcome.{sound-by, loops-last, sound-last}
 use Rattle.plan.specs.Plan.{finish-of, bytes-of, Plans}
 use Rattle.demands.specs.Small.{Accepts, Refuses, Lays, Small}

@@ -20,7 +20,7 @@ use Rattle.planner.specs.declared.requests.Request.the-variants.{Job}
 use Rattle.planner.specs.Requests.{Plannable, accepts-with, grow, request-checks, Applied, answered, Turned, Grown, Applies}
 use Rattle.planner.specs.List.{pairs-of, Judged, Judges}
 use Rattle.planner.proofs.Pairs.{no-chain}
-use Rattle.planner.proofs.Step.{size-is}
+use Rattle.planner.proofs.Growing.{size-is}
 use Rattle.demands.specs.Wrong.{Applying, ShutOut}
 use Rattle.demands.proofs.Second.{demand-2}
 use Rattle.demands.proofs.Third.{plan-accepted, list-accepted}

@@ -31,7 +31,7 @@ use Rattle.refusal.specs.Table.{Clear}
 use Rattle.refusal.proofs.Table.{then-table}
 use Rattle.planner.proofs.Orders.{loop-left}
 use Rattle.planner.proofs.Outcome.{applies-by}
-use Rattle.planner.proofs.Step.{Grows, size-is, job-grows, order-held, order-free, order-grows, followed-told, told-last, Tight, tight-last}
+use Rattle.planner.proofs.Growing.{Grows, size-is, job-grows, order-held, order-free, order-grows, followed-told, told-last, Tight, tight-last}
 use Rattle.book.proofs.Parts.{with-latest}
 use Rattle.planner.proofs.Pending.{entries-length, entries-at, rows-long, joined-links}
 

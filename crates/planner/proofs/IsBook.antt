@@ -29,7 +29,7 @@ use Rattle.planner.specs.Memory.{Whether}
 use Rattle.planner.specs.Inner.Chains.{nothing, joined-rows}
 use Rattle.planner.specs.Inner.Memory.{Limits, Sub, ChainedAt, Steady}
 use Rattle.planner.specs.Inner.Tighten.{Tightenable, Tightens}
-use Rattle.planner.proofs.Step.{false-T}
+use Rattle.planner.proofs.Growing.{false-T}
 use Rattle.planner.proofs.Pending.{nothing-ready, nothing-tight}
 use Rattle.planner.proofs.Whether.{whether-as}
 use Rattle.planner.proofs.Listing.{pairs-listed}

@@ -23,9 +23,9 @@ use Rattle.planner.specs.Requests.{plan-check}
 use Rattle.planner.specs.Inner.List.{Held}
 use Rattle.schedule.proofs.Same.{holds-one}
 use Rattle.schedule.proofs.Onward.{holds-planned}
-use Rattle.planner.proofs.Step.{size-is}
+use Rattle.planner.proofs.Growing.{size-is}
 use Rattle.planner.proofs.Pairs.{pairs-more, pairs-in}
-use Rattle.planner.proofs.Whole.{Sound}
+use Rattle.planner.proofs.ListSound.{Sound}
 use Rattle.planner.proofs.Orders.{held-clear, loop-none}
 use Rattle.planner.proofs.OneByOne.{run-exists}
 

@@ -22,9 +22,9 @@ use Rattle.planner.specs.declared.requests.Request.{Request}
 use Rattle.planner.specs.Requests.{Plannable, grow, Run, opened, asked}
 use Rattle.planner.specs.List.{first-of, second-of, pairs-of, list-of}
 use Rattle.planner.proofs.Outcome.{run-told}
-use Rattle.planner.proofs.Step.{size-is}
+use Rattle.planner.proofs.Growing.{size-is}
 use Rattle.planner.proofs.Pairs.{no-chain, pairs-more, pairs-held, held-both}
-use Rattle.planner.proofs.Whole.{Sound}
+use Rattle.planner.proofs.ListSound.{Sound}
 use Rattle.planner.proofs.Accepts.{Accepts, job-accepted, order-accepted}
 
 -- a list whose jobs and chains are among jobs that have a plan has one

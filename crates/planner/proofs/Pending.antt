@@ -20,7 +20,7 @@ use Rattle.planner.specs.Inner.Chains.{Links, nothing, joined-of, entrie
 use Rattle.planner.specs.Inner.Tighten.{Tightenable, Tightens}
 use Rattle.sets.proofs.Bits.{or-has, empty-has}
 use Rattle.sets.proofs.Range.{with-in}
-use Rattle.planner.proofs.Step.{Grows, order-grows, false-T}
+use Rattle.planner.proofs.Growing.{Grows, order-grows, false-T}
 
 -- what a joined row has
 in-joined : (row y : ℕ) (p : Pending) (x : ℕ) → T (has (joined-of row y p) x) ↔ (T (has row x) ⊎ (T (has (p .more) x) × ((p .job .0 ≡ y) ⊎ T (has row (p .job .0)))))

@@ -19,7 +19,7 @@ use Rattle.refusal.specs.Table.{Clear}
 use Rattle.planner.specs.Requests.{times-checks, answered}
 use Rattle.planner.specs.Inner.Chains.{nothing, joined-rows}
 use Rattle.planner.specs.Inner.Requests.{Settleable, Settles}
-use Rattle.planner.proofs.Step.{Last, Grows, grows-ready, fits-last, none-last, set-back, size-is, job-grows, deadline-grows}
+use Rattle.planner.proofs.Growing.{Last, Grows, grows-ready, fits-last, none-last, set-back, size-is, job-grows, deadline-grows}
 use Rattle.planner.proofs.Pending.{rows-same, pending-grows}
 
 pub nothing-low : (p : Pending) → p ≡ nothing → p .job .0 < 64

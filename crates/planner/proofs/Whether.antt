@@ -11,7 +11,7 @@ use Rattle.schedule.proofs.Tests.{eq→eqb}
 use Rattle.book.specs.Told.{held, nothing-listed, Made}
 use Rattle.book.proofs.Empty.{told-nothing}
 use Rattle.planner.specs.Memory.{Whether}
-use Rattle.planner.proofs.Step.{true-T, false-T}
+use Rattle.planner.proofs.Growing.{true-T, false-T}
 
 pub whether-yes : {P : Type 0} → P → Whether P true
 whether-yes p = record { yes = λ e. p; no = λ e x. subst T e tt }

@@ -4,7 +4,7 @@ use mathlib.Core.Logic.{inl, inr}
 use mathlib.Core.Path.{refl, sym, _∙_}
 use native.Mathlib.Omega.{arith}
 use borrow.Author.Needs.{needs}
-use Rattle.planner.proofs.Step.{true-T, false-T}
+use Rattle.planner.proofs.Growing.{true-T, false-T}
 use Rattle.planner.proofs.list.closes.Statement.{statement}
 use Rattle.planner.proofs.list.closes.Tie as tie
 

@@ -5,7 +5,7 @@ use mathlib.Core.Path.{refl, sym, _∙_}
 use native.Mathlib.Omega.{arith}
 use borrow.Author.Tests.{not-false}
 use Rattle.planner.proofs.Pending.{rows-long, joined-links}
-use Rattle.planner.proofs.Step.{true-T}
+use Rattle.planner.proofs.Growing.{true-T}
 use borrow.Author.Needs.{needs}
 use Rattle.planner.proofs.list.follow.Statement.{statement}
 use Rattle.planner.proofs.list.follow.Tie as tie

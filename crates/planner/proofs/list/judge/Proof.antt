@@ -11,7 +11,7 @@ use Rattle.planner.specs.List.{Misshapen}
 use Rattle.planner.specs.Inner.List.{Spells}
 use Rattle.refusal.specs.Table.{refused}
 use Rattle.planner.proofs.Pairs.{spells-none}
-use Rattle.planner.proofs.Whole.{Sound, sound-settleable, settles-says}
+use Rattle.planner.proofs.ListSound.{Sound, sound-settleable, settles-says}
 use Rattle.planner.proofs.list.judge.Statement.{statement}
 use Rattle.planner.proofs.list.judge.Tie as tie
 

@@ -9,7 +9,7 @@ use Rattle.planner.specs.List.{order-at}
 use Rattle.refusal.specs.Table.{Clear}
 use Rattle.planner.specs.Inner.List.{Spells}
 use Rattle.planner.proofs.Pairs.{held-both, earned, spells-more, spells-all, spells-held}
-use Rattle.planner.proofs.Whole.{found-at, none-at}
+use Rattle.planner.proofs.ListSound.{found-at, none-at}
 use Rattle.planner.proofs.list.looping_pair.Statement.{statement}
 use Rattle.planner.proofs.list.looping_pair.Tie as tie
 

@@ -2,7 +2,7 @@
 -- Assumes nothing.
 use native.Mathlib.Omega.{arith}
 use Rattle.planner.proofs.Pending.{nothing-ready, nothing-tight}
-use Rattle.planner.proofs.Hands.{hands-tightenable, settles-fits, settles-none}
+use Rattle.planner.proofs.HandedOver.{hands-tightenable, settles-fits, settles-none}
 use borrow.Author.Needs.{needs}
 use Rattle.planner.proofs.list.settle.Statement.{statement}
 use Rattle.planner.proofs.list.settle.Tie as tie

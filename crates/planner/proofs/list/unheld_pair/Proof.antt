@@ -9,7 +9,7 @@ use mathlib.Core.Path.{refl}
 use mathlib.Core.Logic.{inl, inr}
 use Rattle.planner.specs.List.{pair-at}
 use Rattle.refusal.specs.Table.{Clear}
-use Rattle.planner.proofs.Whole.{found-at, none-at}
+use Rattle.planner.proofs.ListSound.{found-at, none-at}
 use Rattle.planner.proofs.list.unheld_pair.Statement.{statement}
 use Rattle.planner.proofs.list.unheld_pair.Tie as tie
 

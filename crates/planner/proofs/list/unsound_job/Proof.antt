@@ -6,7 +6,7 @@ use borrow.Author.Needs.{needs}
 use lib.ListN.{length}
 use Rattle.planner.specs.List.{job-at}
 use Rattle.refusal.specs.Table.{Clear}
-use Rattle.planner.proofs.Whole.{found-at, none-at}
+use Rattle.planner.proofs.ListSound.{found-at, none-at}
 use Rattle.planner.proofs.list.unsound_job.Statement.{statement}
 use Rattle.planner.proofs.list.unsound_job.Tie as tie
 

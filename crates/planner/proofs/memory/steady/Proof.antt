@@ -6,7 +6,7 @@ use borrow.Author.Needs.{needs}
 use lib.ListN.{length}
 use Rattle.book.specs.Told.{cores, part}
 use Rattle.planner.specs.Inner.Tighten.{Tightens}
-use Rattle.planner.proofs.Hands.{hands-all}
+use Rattle.planner.proofs.HandedOver.{hands-all}
 use Rattle.planner.proofs.Whether.{whether-no, whether-as}
 use Rattle.planner.proofs.IsBook.{copied-ready, copied-tight, steady-yes, steady-same, steady-none}
 use Rattle.planner.proofs.memory.steady.Statement.{statement}

@@ -7,7 +7,7 @@ use borrow.Author.Needs.{needs}
 use Rattle.refusal.specs.Table.{refused, Clear}
 use Rattle.refusal.proofs.Table.{then-table}
 use Rattle.planner.specs.Requests.{times-checks}
-use Rattle.planner.proofs.Step.{size-is}
+use Rattle.planner.proofs.Growing.{size-is}
 use Rattle.planner.proofs.Posed.{job-ready, job-fits, job-none}
 use Rattle.planner.proofs.requests.add_job.Statement.{statement}
 use Rattle.planner.proofs.requests.add_job.Tie as tie

@@ -12,7 +12,7 @@ use Rattle.refusal.proofs.Table.{then-table}
 use Rattle.book.specs.Told.{held, Told}
 use Rattle.planner.specs.declared.requests.Request.the-variants.{Before}
 use Rattle.planner.specs.Requests.{Sound}
-use Rattle.planner.proofs.Step.{Grows, false-T, true-T, size-is, order-held, order-back, order-free, followed-told, told-last}
+use Rattle.planner.proofs.Growing.{Grows, false-T, true-T, size-is, order-held, order-back, order-free, followed-told, told-last}
 use Rattle.planner.proofs.Posed.{posed, order-posed, times-ready, times-fit, times-none}
 use Rattle.planner.proofs.requests.add_order.Statement.{statement}
 use Rattle.planner.proofs.requests.add_order.Tie as tie

@@ -15,7 +15,7 @@ use Rattle.planner.specs.declared.requests.Request.the-variants.{Earlier
 use Rattle.planner.specs.Requests.{Sound}
 use Rattle.planner.specs.Inner.Chains.{joined-rows}
 use Rattle.planner.proofs.Pending.{rows-same}
-use Rattle.planner.proofs.Step.{Grows, size-is, kept-told, told-last}
+use Rattle.planner.proofs.Growing.{Grows, size-is, kept-told, told-last}
 use Rattle.planner.proofs.Posed.{nothing-low, posed, deadline-posed, times-ready, times-fit, times-none}
 use Rattle.planner.proofs.requests.draw_in.Statement.{statement}
 use Rattle.planner.proofs.requests.draw_in.Tie as tie

@@ -7,7 +7,7 @@ use lib.Dec.{T}
 use lib.ListN.{length}
 use Rattle.book.specs.Told.{part}
 use Rattle.book.proofs.Parts.{part-length}
-use Rattle.planner.proofs.Hands.{hands-all}
+use Rattle.planner.proofs.HandedOver.{hands-all}
 use Rattle.planner.proofs.requests.settle.Statement.{statement}
 use Rattle.planner.proofs.requests.settle.Tie as tie
 

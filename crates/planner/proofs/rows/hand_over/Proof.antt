@@ -5,7 +5,7 @@ use mathlib.Core.Path.{_≡_}
 use native.Mathlib.Omega.{arith}
 use borrow.Author.Needs.{needs}
 use Rattle.planner.specs.Inner.Rows.{Hands}
-use Rattle.planner.proofs.Hands.{hands-none, hands-more}
+use Rattle.planner.proofs.HandedOver.{hands-none, hands-more}
 use Rattle.planner.proofs.rows.hand_over.Statement.{statement}
 use Rattle.planner.proofs.rows.hand_over.Tie as tie
 

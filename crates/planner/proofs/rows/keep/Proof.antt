@@ -4,7 +4,7 @@ use Prim.Native.Nat.{_-_, _≤_}
 use mathlib.Core.Path.{_≡_}
 use native.Mathlib.Omega.{arith}
 use borrow.Author.Needs.{needs}
-use Rattle.planner.proofs.Hands.{Keeping, keeping-none, keeping-more, keeping-all}
+use Rattle.planner.proofs.HandedOver.{Keeping, keeping-none, keeping-more, keeping-all}
 use Rattle.planner.proofs.rows.keep.Statement.{statement}
 use Rattle.planner.proofs.rows.keep.Tie as tie
 
