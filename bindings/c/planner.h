@@ -99,7 +99,8 @@ static inline uint8_t planner_add_job(struct planner_book *book, uint16_t start,
     return firmware_add_job(&book->size, book->before, start, deadline, value);
 }
 
-/* Job `first` ends before job `second` begins; *value is 0. An order that already follows changes nothing. 5, 12, 13, 6, 4. */
+/* Job `first` ends before job `second` begins; *value is 0. An order that already follows changes nothing.
+ * 5, 12, 13, 6, 4. */
 static inline uint8_t planner_add_order(struct planner_book *book, uint16_t first, uint16_t second, size_t *value) {
     return firmware_add_order(&book->size, book->before, first, second, value);
 }
@@ -110,7 +111,8 @@ static inline uint8_t planner_draw_in(struct planner_book *book, uint16_t job, u
 }
 
 /* A whole list and no book: `pairs` holds first, second, first, second..; `latest` receives the latest times, and its
- * entries beyond the number of jobs stay. *value is 0. 7, 1; then 2, 3 job by job; then 5, 12 pair by pair; then 13 or 6; then 4. */
+ * entries beyond the number of jobs stay. *value is 0. 7, 1; then 2, 3 job by job; then 5, 12 pair by pair; then 13 or
+ * 6; then 4. */
 static inline uint8_t planner_judge(const uint16_t *starts, size_t starts_length, const uint16_t *deadlines,
                                     size_t deadlines_length, const uint16_t *pairs, size_t pairs_length,
                                     uint16_t *latest, size_t latest_length, size_t *value) {

@@ -47,7 +47,7 @@ pub struct CoreIndex(pub usize);
 /// A number of refusal, and what is returned with it. Nothing was changed.
 #[derive(Clone, Copy, Debug, PartialEq, Eq)]
 pub struct Refusal {
-    /// 1 to 11.
+    /// 1 to 13.
     pub number: u8,
     /// What is returned with it: a place in a list, bytes needed, an offset, or 0.
     pub value: usize,
