@@ -329,8 +329,8 @@ impl Row {
     }
 }
 
-/// Others on the machine can only add to a time, even to processor time; so the least counts, and each round goes through
-/// all the work, which lets every row find the machine at its quietest.
+/// The least counts, since others on the machine add to a time, even to processor time; each round goes through all the
+/// work, so that no row is timed at one busy moment alone.
 fn times(rounds: usize) {
     let mut rows: Vec<Row> = cases().into_iter().map(Row::new).collect();
     for _ in 0..rounds {
