@@ -2,7 +2,7 @@
 -- Beside it, the rule that a request that says nothing new changes nothing.
 -- Assumes nothing.
 use mathlib.Core.List.{List, [], _∷_, _++_}
-use mathlib.Core.Logic.{⊎-elim}
+use mathlib.Core.Logic.{inr}
 use mathlib.Core.Path.{_≡_, refl, sym, ap, ap₂, _∙_}
 use Prim.Native.Nat.{ℕ, zero, suc, _+_, _*_, _/_, _≤_, _<_}
 use native.Mathlib.Omega.{arith}
@@ -15,29 +15,24 @@ use Rattle.schedule.specs.Make.{slots, bytes}
 use Rattle.schedule.specs.Listed.{Listed}
 use Rattle.schedule.specs.Book.{Holds}
 use Rattle.schedule.proofs.Same.{finish-one, bytes-one}
-use Rattle.planner.specs.declared.book.Book.{Book}
-use Rattle.planner.specs.declared.book.Request.{Request}
-use Rattle.planner.specs.declared.book.Request.the-variants.{Job, Before, Earlier}
-use Rattle.planner.specs.declared.book.Applied.{Applied}
-use Rattle.planner.specs.declared.refusal.Answer.{Answer}
-use Rattle.planner.specs.declared.refusal.Answer.the-variants.{Accepted, Refused}
-use Rattle.planner.specs.Told.{jobs-of, latest-of, Told}
-use Rattle.planner.specs.Unless.{refused, passed}
-use Rattle.planner.specs.Outcome.{Planned, Judged, Outcome, grow, Run}
-use Rattle.planner.specs.Judged.{first-of, second-of, pairs-of, list-of, Misshapen, Judges}
-use Rattle.planner.specs.Planned.{finish-of, bytes-of, Plans}
-use Rattle.planner.proofs.Once.{run-told, run-one}
-use Rattle.planner.proofs.Judged.{unless-free, list-is-requests}
+use Rattle.refusal.specs.Table.{refused, passed}
+use Rattle.refusal.proofs.Table.{table-caught, table-free}
+use Rattle.book.specs.Told.{Book, jobs-of, latest-of, Told}
+use Rattle.planner.specs.declared.requests.Request.{Request}
+use Rattle.planner.specs.Requests.{Plannable, Sound, request-checks, accepts-with, Applied, answered, Turned, Grown, Outcome, grow, Run}
+use Rattle.planner.specs.List.{first-of, second-of, pairs-of, list-of, Misshapen, SoundRows, list-checks, Judged, TurnedDown, Fitted, Judges}
+use Rattle.planner.proofs.Outcome.{run-told, run-one}
+use Rattle.planner.proofs.ListOutcome.{list-is-requests}
 use Rattle.planner.proofs.Unchanged.{order-unchanged, deadline-unchanged}
-use Rattle.demands.specs.Demands.{Sound, Demand3, Unchanged}
-use Rattle.demands.proofs.First.{not-both}
-use Rattle.demands.proofs.Second.{refused-hopeless}
+use Rattle.plan.specs.Plan.{horizon, unplaced, finish-of, bytes-of, Plans}
+use Rattle.demands.specs.Demands.{Demand3, Unchanged}
+use Rattle.demands.proofs.Second.{refused-none}
 
 -- ---- handed in at once
-at-once : (starts deadlines pairs old new : List ℕ) (k : Book) (r : Answer) → Run (list-of starts deadlines pairs) k → (Misshapen starts deadlines pairs old → ⊥) →
-    Judges starts deadlines pairs old new r → (r ≡ Accepted 0) × ((i : ℕ) → i < k .size → getD new i 0 ≡ latest-of k i)
-at-once starts deadlines pairs old new k r run form j =
-    let x = list-is-requests starts deadlines pairs old _ j in
+at-once : (starts deadlines pairs old : List ℕ) (k : Book) (r : Judged) → Run (list-of starts deadlines pairs) k → (Misshapen starts deadlines pairs old → ⊥) →
+    Judges starts deadlines pairs old r → (r .number ≡ 0) × ((i : ℕ) → i < k .size → getD (r .row) i 0 ≡ latest-of k i)
+at-once starts deadlines pairs old k r run form j =
+    let x = list-is-requests starts deadlines pairs old r j in
     let t = run-told (list-of starts deadlines pairs) k run in
     let a = x .accepted form k t in
     (a, λ i l. x .times a k t i (omega (arith, t .holds .reads .size)))
@@ -77,29 +72,29 @@ module _ (L : Listed) (k : Book) (t : Told k L) (J : Jobs) (times : ℕ → ℕ)
   low : Beneath (jobs-of k) (latest-of k) (λ i. 4096)
   low i l = omega (arith, t .holds .latest .beneath i l, t .limited .deadline i (omega (arith, t .holds .reads .size)))
 
-  defined : (old new : List ℕ) (told : ℕ) → Plans k old new (Accepted told) → (told ≡ finish J (slots 2 J times 4096 4096)) × (new ≡ bytes J times 4096 told ++ drop (2 * told) old)
-  defined old new told (refused f e) = absurd (not-both (Accepted told) told 8 _ refl (ap (λ (x : Answer × List ℕ). x .0) e))
+  defined : (old new : List ℕ) (told : ℕ) → Plans k old new 0 told → (told ≡ finish J (slots 2 J times unplaced horizon)) × (new ≡ bytes J times unplaced told ++ drop (2 * told) old)
+  defined old new told (refused c w x e) = let number : _≡_ {A = ℕ} 0 8 = ap (λ r. r .0) e ∙ x .1 in absurd (omega arith)
   defined old new told (passed f e) =
-      let ends : told ≡ finish-of k = let a : Accepted told ≡ Accepted (finish-of k) = ap (λ (x : Answer × List ℕ). x .0) e in cc in
-      let same : told ≡ finish J (slots 2 J times 4096 4096) =
-      ends ∙ finish-one L (jobs-of k) J (latest-of k) times (t .holds) h 4096 4096 4096 4096 low (omega arith) (omega arith) (omega arith) in
-      let shown : bytes-of k ≡ bytes J times 4096 told =
-      bytes-one L (jobs-of k) J (latest-of k) times (t .holds) h 4096 4096 4096 4096 low (omega arith) (omega arith) (omega arith) ∙ ap (bytes J times 4096) (sym same) in
-      (same, ap (λ (x : Answer × List ℕ). x .1) e ∙ ap₂ (λ (front : List ℕ) (n : ℕ). front ++ drop (2 * n) old) shown (sym ends))
+      let ends : told ≡ finish-of k = ap (λ r. r .1) e in
+      let same : told ≡ finish J (slots 2 J times unplaced horizon) =
+      ends ∙ finish-one L (jobs-of k) J (latest-of k) times (t .holds) h unplaced horizon unplaced horizon low (omega arith) (omega arith) (omega arith) in
+      let shown : bytes-of k ≡ bytes J times unplaced told =
+      bytes-one L (jobs-of k) J (latest-of k) times (t .holds) h unplaced horizon unplaced horizon low (omega arith) (omega arith) (omega arith) ∙ ap (bytes J times unplaced) (sym same) in
+      (same, ap (λ r. r .2) e ∙ ap₂ (λ (front : List ℕ) (n : ℕ). front ++ drop (2 * n) old) shown (sym ends))
 
--- ---- a sound request is refused only for want of a plan
-judged-refused : (L : Listed) (value : ℕ) (k : Book) (r : Applied) → (Planned L → ⊥) → Judged L value k r → r .answer ≡ Refused 4 0
-judged-refused L value k r none (refused x e) = ap (λ (y : Applied). y .answer) e
-judged-refused L value k r none (passed x y) = absurd (x none)
+-- ---- a sound request is refused only for want of a plan, and else accepted
+module _ (L : Listed) (k : Book) (q : Request) (r : Applied) (sound : Sound L q) (o : Outcome L k q r) where
+  none-refused : (Plannable (grow L q) → ⊥) → r ≡ answered k 4 0
+  none-refused none = table-caught (request-checks L q) (Turned k) (Grown (grow L q) (accepts-with L q)) r 4 0 (inr (sound, (none, refl, refl))) o
 
-hopeless-refused : (L : Listed) (k : Book) (q : Request) (r : Applied) → Sound L q → (Planned (grow L q) → ⊥) → Outcome L k q r → r .answer ≡ Refused 4 0
-hopeless-refused L k (Job s d) r x none o =
-    judged-refused _ _ k r none (unless-free _ _ _ r (λ f. omega (arith, x .3)) (unless-free _ _ _ r (λ f. ⊎-elim (λ g. omega (arith, x .1)) (λ g. omega (arith, x .2)) f)
-    (unless-free _ _ _ r (λ f. omega (arith, x .0)) o)))
-hopeless-refused L k (Before a b) r x none o =
-    judged-refused _ _ k r none (unless-free _ _ _ r (λ f. ⊎-elim (x .2) (x .3) f) (unless-free _ _ _ r (λ f. ⊎-elim (λ g. omega (arith, x .0)) (λ g. omega (arith, x .1)) f) o))
-hopeless-refused L k (Earlier j d) r x none o =
-    judged-refused _ _ k r none (unless-free _ _ _ r (λ f. omega (arith, x .2)) (unless-free _ _ _ r (λ f. omega (arith, x .1)) (unless-free _ _ _ r (λ f. omega (arith, x .0)) o)))
+  pub plan-accepted : Plannable (grow L q) → Grown (grow L q) (accepts-with L q) r
+  plan-accepted plan = table-free (request-checks L q) (Turned k) (Grown (grow L q) (accepts-with L q)) r (sound, λ none. none plan) o
+
+pub list-accepted : (starts deadlines pairs old : List ℕ) (r : Judged) → Judges starts deadlines pairs old r → SoundRows starts deadlines pairs old → Plannable (list-of starts deadlines pairs) →
+    (r .number ≡ 0) × (r .value ≡ 0)
+list-accepted starts deadlines pairs old r j sound plan =
+    let f = table-free (list-checks starts deadlines pairs old) (TurnedDown old) (Fitted (list-of starts deadlines pairs) old) r (sound, λ none. none plan) j in
+    (ap (λ (z : Judged). z .number) (f .accepts), ap (λ (z : Judged). z .value) (f .accepts))
 
 pub demand-3 : Demand3
 demand-3 = record {
@@ -110,7 +105,9 @@ demand-3 = record {
   one-book = run-one;
   refused = λ L k q r run x sound.
       let o = x .outcome L (run-told L k run) in
-      ((λ a. refused-hopeless L k q r 0 a o), (λ none. hopeless-refused L k q r sound none o));
+      ((λ a. refused-none L k q r (ap (λ (z : Applied). z .number) a) o), none-refused L k q r sound o);
+  accepted = λ L k q r run x sound plan. plan-accepted L k q r sound (x .outcome L (run-told L k run)) plan .accepts;
+  list-accepted = list-accepted;
 }
 
 -- ---- a request that says nothing new

@@ -1,2 +1,2 @@
--- Laws of the firmware's calls.
+-- Laws of the firmware's calls; the proof of a function stands in the folder of its module.
 pub mod Only

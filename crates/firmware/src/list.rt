@@ -1,11 +1,9 @@
 // The whole list at once, and the class of a number of refusal.
-use crate::lent::number;
-use crate::lent::value;
-use planner::Class;
+use refusal::Class;
 ghost use mathlib.Core.Path.{_≡_};
-ghost use Rattle.planner.specs.Answer.{class-of};
-ghost use Rattle.firmware.specs.Lent.{class-number};
-ghost use Rattle.firmware.specs.Calls.{JudgesList};
+ghost use Rattle.refusal.specs.Says.{class-of};
+ghost use Rattle.planner.specs.List.{Judges, judged};
+ghost use Rattle.firmware.specs.List.{class-number};
 
 #[no_mangle]
 pub extern "C" fn firmware_judge(
@@ -15,22 +13,22 @@ pub extern "C" fn firmware_judge(
     latest: &mut [u16],
     answer: &mut usize,
 ) -> u8
-    ensures { λ r. ⌜ JudgesList (now (starts .entry)) (now (deadlines .entry)) (now (pairs .entry)) (now (latest .entry)) (now (latest .exit)) r (now (answer .exit)) ⌝ }
+    ensures { λ r. ⌜ Judges (now (starts .entry)) (now (deadlines .entry)) (now (pairs .entry)) (now (latest .entry)) (judged (now (latest .exit)) r (now (answer .exit))) ⌝ }
 {
     let told = planner::judge(starts, deadlines, pairs, latest);
-    *answer = value(told);
-    number(told)
+    *answer = refusal::value(told);
+    refusal::number(told)
 }
 
 #[no_mangle]
 pub extern "C" fn firmware_class(refusal: u8) -> u8
     ensures { λ r. ⌜ r ≡ class-number (class-of refusal) ⌝ }
 {
-    told(planner::class_of(refusal))
+    number(refusal::class_of(refusal))
 }
 
 // A class as a number.
-fn told(class: Class) -> u8
+fn number(class: Class) -> u8
     ensures { λ r. ⌜ r ≡ class-number class ⌝ }
 {
     match class {

@@ -1,70 +1,57 @@
 // A book opened, and requests on it.
-use crate::lent::number;
-use crate::lent::value;
+use book::Before;
+use book::Times;
 use planner::Request;
 use schedule::JobIndex;
-ghost use Rattle.planner.specs.Told.{Told, Made, held, nothing-listed};
-ghost use Rattle.firmware.specs.Calls.{Asks};
+ghost use Rattle.book.specs.Told.{Told, Made, held, nothing-listed};
+ghost use Rattle.planner.specs.Requests.{Applies, answered};
+ghost use Rattle.firmware.specs.Requests.{TellsBook};
 
 #[no_mangle]
-pub extern "C" fn firmware_open(
-    size: &mut usize,
-    start: &mut [u16; 64],
-    latest: &mut [u16; 64],
-    before: &mut [u64; 64],
-)
-    ensures { λ _. ⌜ Told (held (now (size .exit)) (now (start .exit)) (now (latest .exit)) (now (before .exit))) nothing-listed ⌝ }
+pub extern "C" fn firmware_open(times: &mut Times, before: &mut Before)
+    ensures { λ _. ⌜ Told (held (now (times .exit)) (now (before .exit))) nothing-listed ⌝ }
 {
-    let book = planner::open();
-    let starts = book.start;
-    let times = book.latest;
-    let sets = book.before;
-    *size = book.size;
-    *start = starts;
-    *latest = times;
-    *before = sets;
+    book::open(times, before);
+}
+
+// 1 where the memory holds a book made by requests, and 0 for anything else.
+#[no_mangle]
+pub extern "C" fn firmware_is_book(times: &Times, before: &Before) -> u8
+    ensures { λ r. ⌜ TellsBook (held (now (times .entry)) (now (before .entry))) r ⌝ }
+{
+    if planner::is_book(times, before) {
+        return 1;
+    }
+    0
 }
 
 #[no_mangle]
 pub extern "C" fn firmware_add_job(
-    size: &mut usize,
-    start: &mut [u16; 64],
-    latest: &mut [u16; 64],
-    before: &mut [u64; 64],
-    begin: u16,
+    times: &mut Times,
+    before: &mut Before,
+    start: u16,
     deadline: u16,
     answer: &mut usize,
 ) -> u8
-    requires { ⌜ Made (held (now size) (now start) (now latest) (now before)) ⌝ }
-    ensures { λ r. ⌜ Asks (held (now (size .entry)) (now (start .entry)) (now (latest .entry)) (now (before .entry))) (Request.Job begin deadline) (held (now (size .exit)) (now (start .exit)) (now (latest .exit)) (now (before .exit))) r (now (answer .exit)) ⌝ }
+    requires { ⌜ Made (held (now times) (now before)) ⌝ }
+    ensures { λ r. ⌜ Applies (held (now (times .entry)) (now (before .entry))) (Request.Job start deadline) (answered (held (now (times .exit)) (now (before .exit))) r (now (answer .exit))) ⌝ }
 {
-    ask(
-        size,
-        start,
-        latest,
-        before,
-        Request::Job(begin, deadline),
-        answer,
-    )
+    ask(times, before, Request::Job(start, deadline), answer)
 }
 
 #[no_mangle]
 pub extern "C" fn firmware_add_order(
-    size: &mut usize,
-    start: &mut [u16; 64],
-    latest: &mut [u16; 64],
-    before: &mut [u64; 64],
+    times: &mut Times,
+    before: &mut Before,
     first: u16,
     second: u16,
     answer: &mut usize,
 ) -> u8
-    requires { ⌜ Made (held (now size) (now start) (now latest) (now before)) ⌝ }
-    ensures { λ r. ⌜ Asks (held (now (size .entry)) (now (start .entry)) (now (latest .entry)) (now (before .entry))) (Request.Before (record { 0 = first }) (record { 0 = second })) (held (now (size .exit)) (now (start .exit)) (now (latest .exit)) (now (before .exit))) r (now (answer .exit)) ⌝ }
+    requires { ⌜ Made (held (now times) (now before)) ⌝ }
+    ensures { λ r. ⌜ Applies (held (now (times .entry)) (now (before .entry))) (Request.Before (record { 0 = first }) (record { 0 = second })) (answered (held (now (times .exit)) (now (before .exit))) r (now (answer .exit))) ⌝ }
 {
     ask(
-        size,
-        start,
-        latest,
+        times,
         before,
         Request::Before(JobIndex(first as usize), JobIndex(second as usize)),
         answer,
@@ -73,40 +60,29 @@ pub extern "C" fn firmware_add_order(
 
 #[no_mangle]
 pub extern "C" fn firmware_draw_in(
-    size: &mut usize,
-    start: &mut [u16; 64],
-    latest: &mut [u16; 64],
-    before: &mut [u64; 64],
+    times: &mut Times,
+    before: &mut Before,
     job: u16,
     deadline: u16,
     answer: &mut usize,
 ) -> u8
-    requires { ⌜ Made (held (now size) (now start) (now latest) (now before)) ⌝ }
-    ensures { λ r. ⌜ Asks (held (now (size .entry)) (now (start .entry)) (now (latest .entry)) (now (before .entry))) (Request.Earlier (record { 0 = job }) deadline) (held (now (size .exit)) (now (start .exit)) (now (latest .exit)) (now (before .exit))) r (now (answer .exit)) ⌝ }
+    requires { ⌜ Made (held (now times) (now before)) ⌝ }
+    ensures { λ r. ⌜ Applies (held (now (times .entry)) (now (before .entry))) (Request.Earlier (record { 0 = job }) deadline) (answered (held (now (times .exit)) (now (before .exit))) r (now (answer .exit))) ⌝ }
 {
     ask(
-        size,
-        start,
-        latest,
+        times,
         before,
         Request::Earlier(JobIndex(job as usize), deadline),
         answer,
     )
 }
 
-// A request, and the answer told.
-fn ask(
-    size: &mut usize,
-    start: &mut [u16; 64],
-    latest: &mut [u16; 64],
-    before: &mut [u64; 64],
-    request: Request,
-    answer: &mut usize,
-) -> u8
-    requires { ⌜ Made (held (now size) (now start) (now latest) (now before)) ⌝ }
-    ensures { λ r. ⌜ Asks (held (now (size .entry)) (now (start .entry)) (now (latest .entry)) (now (before .entry))) request (held (now (size .exit)) (now (start .exit)) (now (latest .exit)) (now (before .exit))) r (now (answer .exit)) ⌝ }
+// A request, and the answer told in numbers.
+fn ask(times: &mut Times, before: &mut Before, request: Request, answer: &mut usize) -> u8
+    requires { ⌜ Made (held (now times) (now before)) ⌝ }
+    ensures { λ r. ⌜ Applies (held (now (times .entry)) (now (before .entry))) request (answered (held (now (times .exit)) (now (before .exit))) r (now (answer .exit))) ⌝ }
 {
-    let told = planner::amend(size, start, latest, before, request);
-    *answer = value(told);
-    number(told)
+    let told = planner::apply(times, before, request);
+    *answer = refusal::value(told);
+    refusal::number(told)
 }

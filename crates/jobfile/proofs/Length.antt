@@ -1,28 +1,24 @@
--- How long a written book is: the pairs by first are the pairs by second.
+-- How long a book's file is: the pairs by first are the pairs by second, and of two jobs one at most precedes the other.
 -- Assumes nothing.
-use mathlib.Core.Bool.{Bool, true, false, cond}
+use mathlib.Core.Bool.{Bool, true, false, cond, _||_}
 use mathlib.Core.List.{List, [], _∷_}
 use mathlib.Core.Path.{_≡_, refl, sym, ap, ap₂, _∙_}
 use Prim.Native.Nat.{ℕ, zero, suc, _+_, _*_, _≤_, _<_}
 use native.Mathlib.Nat.{le-antisymm, le-of-eq, lt-of-lt-of-le}
 use native.Mathlib.Omega.{arith}
-use lib.Count.{ones}
 use lib.Dec.{T}
 use lib.ListN.{length, getD, length-append}
-use lib.Pow.{pow-mono}
 use Rattle.schedule.specs.Count.{one, count}
 use Rattle.schedule.specs.Listed.{Listed}
 use Rattle.schedule.proofs.Counting.{count-inject, count-longer, count-lt, count-bound}
-use Rattle.schedule.proofs.Rows.{sum, sum-mono}
-use Rattle.planner.specs.declared.book.Book.{Book}
-use Rattle.planner.specs.declared.book.Request.{Request}
-use Rattle.planner.specs.Sets.{has}
-use Rattle.planner.specs.Told.{Told}
-use Rattle.planner.proofs.Bits.{ones-count}
-use Rattle.planner.proofs.Same.{below-pow}
-use Rattle.jobfile.specs.Write.{gather, job-asked, order-asked, followers-asked, asks-of, file-of}
-use Rattle.jobfile.specs.Inner.Write.{pairs-in}
-use Rattle.jobfile.proofs.Spelled.{spelled-length}
+use Rattle.schedule.specs.Theory.Sum.{sum}
+use Rattle.schedule.proofs.Rows.{sum-mono}
+use Rattle.book.specs.Told.{Book, Told}
+use Rattle.records.specs.declared.Record.{Record}
+use Rattle.sets.specs.Sets.{has}
+use Rattle.jobfile.specs.Writer.{gather, job-record, order-record, follower-records, records-of, file-of}
+use Rattle.jobfile.specs.Inner.Writer.{pairs-in}
+use Rattle.jobfile.proofs.Bytes.{all-length}
 use Rattle.jobfile.proofs.Part.{loopless}
 
 -- ---- sums
@@ -59,11 +55,16 @@ unfolding count sum
 count-sum zero p = refl
 count-sum (suc n) p = ap (λ (x : ℕ). one (p n) + x) (count-sum n p)
 
--- ---- the ones of a set of numbers below n
-ones-held : (n x : ℕ) → ((j : ℕ) → T (has x j) → j < n) → ones x ≡ count n (has x)
-ones-held n x h =
-    ones-count (x + n) x (omega (arith, below-pow x, pow-mono {i = x} {j = x + n} (omega arith)))
-    ∙ le-antisymm (count-inject (x + n) n (has x) (has x) (λ i. i) (λ i l t. (h i t, t)) (λ i j li lj e. e)) (count-longer n (x + n) (has x) (omega arith))
+-- of two tests one at most holds
+one-either : (x y : Bool) → (T x → T y → ⊥) → one x + one y ≡ one (x || y)
+one-either true true f = absurd (f tt tt)
+one-either true false f = refl
+one-either false true f = refl
+one-either false false f = refl
+
+neither : (x y : Bool) → (T x → ⊥) → (T y → ⊥) → T (x || y) → ⊥
+neither true y f g z = f tt
+neither false y f g z = g z
 
 -- ---- what is gathered
 gather-length : {A : Type 0} (n : ℕ) (f : ℕ → List A) → length (gather n f) ≡ sum n (λ i. length (f i))
@@ -71,42 +72,58 @@ unfolding gather sum
 gather-length zero f = refl
 gather-length (suc n) f = length-append (gather n f) (f n) ∙ omega (arith, gather-length n f)
 
-order-length : (x : Bool) (q : Request) → length (cond x (q ∷ []) []) ≡ one x
-order-length true q = refl
-order-length false q = refl
+order-length : (x : Bool) (r : Record) → length (cond x (r ∷ []) []) ≡ one x
+order-length true r = refl
+order-length false r = refl
 
 module _ (k : Book) where
-  pub jobs-length : length (gather (k .size) (job-asked (k .start) (k .latest))) ≡ k .size
-  jobs-length = gather-length (k .size) (job-asked (k .start) (k .latest)) ∙ sum-one (k .size)
+  abbrev precedes : ℕ → ℕ → Bool
+  precedes a b = has (getD (k .before) b 0) a
+
+  jobs-length : length (gather (k .size) (job-record (k .start) (k .latest))) ≡ k .size
+  jobs-length = gather-length (k .size) (job-record (k .start) (k .latest)) ∙ sum-one (k .size)
 
   module _ (L : Listed) (t : Told k L) where
-    members : (b : ℕ) → ones (getD (k .before) b 0) ≡ count (k .size) (has (getD (k .before) b 0))
-    members b = ones-held (k .size) (getD (k .before) b 0) (λ j x. t .shaped .before-rest j b x .0)
+    -- no set has a job that is not held
+    members : (b : ℕ) → count 64 (λ a. precedes a b) ≡ sum (k .size) (λ a. one (precedes a b))
+    members b =
+        le-antisymm (count-inject 64 (k .size) (λ a. precedes a b) (λ a. precedes a b) (λ a. a) (λ a l x. (t .shaped .before-rest a b x .0, x)) (λ i j li lj e. e))
+        (count-longer (k .size) 64 (λ a. precedes a b) (t .shaped .few))
+        ∙ count-sum (k .size) (λ a. precedes a b)
 
-    -- no job precedes itself
-    row-few : (b : ℕ) → b < k .size → count (k .size) (has (getD (k .before) b 0)) < k .size
-    row-few b l = lt-of-lt-of-le (count-lt (k .size) (has (getD (k .before) b 0)) (λ i. true) b l (λ i h x. tt) tt (λ x. loopless k L t b b x x)) (count-bound (k .size) (λ i. true))
+    pairs-by-second : pairs-in (k .size) (k .before) ≡ sum (k .size) (λ b. sum (k .size) (λ a. one (precedes a b)))
+    pairs-by-second = sum-same (k .size) _ _ (λ b l. members b)
 
-    pub pairs-few : pairs-in (k .size) (k .before) ≤ 63 * k .size
-    pairs-few = sum-bound (k .size) (λ b. ones (getD (k .before) b 0)) (λ b l. omega (arith, t .shaped .few, members b, row-few b l))
+    pairs-by-first : pairs-in (k .size) (k .before) ≡ sum (k .size) (λ a. sum (k .size) (λ b. one (precedes a b)))
+    pairs-by-first = pairs-by-second ∙ sum-swap (k .size) (k .size) (λ b a. one (precedes a b))
 
-    orders-length : length (gather (k .size) (followers-asked (k .size) (k .before))) ≡ pairs-in (k .size) (k .before)
+    -- those that precede a job and those that it precedes: all but itself
+    row-few : (b : ℕ) → b < k .size → sum (k .size) (λ a. one (precedes a b)) + sum (k .size) (λ a. one (precedes b a)) ≤ 63
+    row-few b l =
+        let either : ℕ → Bool = λ a. precedes a b || precedes b a in
+        let both = sym (sum-add (k .size) (λ a. one (precedes a b)) (λ a. one (precedes b a)))
+        ∙ sum-same (k .size) _ _ (λ a h. one-either (precedes a b) (precedes b a) (loopless k L t a b)) ∙ sym (count-sum (k .size) either) in
+        let fewer = lt-of-lt-of-le (count-lt (k .size) either (λ i. true) b l (λ i h x. tt) tt (neither (precedes b b) (precedes b b) (λ x. loopless k L t b b x x) (λ x. loopless k L t b b x x)))
+        (count-bound (k .size) (λ i. true)) in
+        omega (arith, both, fewer, t .shaped .few)
+
+    pub pairs-few : 2 * pairs-in (k .size) (k .before) ≤ 63 * k .size
+    pairs-few =
+        let twice = sum-add (k .size) (λ b. sum (k .size) (λ a. one (precedes a b))) (λ b. sum (k .size) (λ a. one (precedes b a))) in
+        omega (arith, pairs-by-first, pairs-by-second, twice, sum-bound (k .size) _ row-few)
+
+    orders-length : length (gather (k .size) (follower-records (k .size) (k .before))) ≡ pairs-in (k .size) (k .before)
     orders-length =
-        gather-length (k .size) (followers-asked (k .size) (k .before))
-        ∙ sum-same (k .size) _ _ (λ a l. gather-length (k .size) (order-asked (k .before) a) ∙ sum-same (k .size) _ _ (λ b h. order-length (has (getD (k .before) b 0) a) _))
-        ∙ sum-swap (k .size) (k .size) (λ a b. one (has (getD (k .before) b 0) a))
-        ∙ sum-same (k .size) _ _ (λ b l. sym (members b ∙ count-sum (k .size) (has (getD (k .before) b 0))))
-
-    pub asks-length : length (asks-of k) ≡ k .size + pairs-in (k .size) (k .before)
-    unfolding asks-of
-    asks-length =
-        length-append (gather (k .size) (job-asked (k .start) (k .latest))) _
-        ∙ ap₂ (λ (x y : ℕ). x + y) jobs-length orders-length
+        gather-length (k .size) (follower-records (k .size) (k .before))
+        ∙ sum-same (k .size) _ _ (λ a l. gather-length (k .size) (order-record (k .before) a) ∙ sum-same (k .size) _ _ (λ b h. order-length (precedes a b) _))
+        ∙ sym pairs-by-first
 
     pub file-length : length (file-of k) ≡ 6 * (k .size + pairs-in (k .size) (k .before))
-    unfolding file-of
-    file-length = spelled-length (asks-of k) ∙ ap (λ (n : ℕ). 6 * n) asks-length
+    unfolding file-of records-of
+    file-length =
+        all-length (records-of k)
+        ∙ ap (λ (n : ℕ). 6 * n) (length-append (gather (k .size) (job-record (k .start) (k .latest))) _ ∙ ap₂ (λ (x y : ℕ). x + y) jobs-length orders-length)
 
-    -- a written book is never too long to read (01, Numbers and limits: "at most 24,576 bytes")
-    pub file-short : length (file-of k) ≤ 24576
+    -- 64 jobs and 2,016 pairs
+    pub file-short : length (file-of k) ≤ 12480
     file-short = omega (arith, file-length, pairs-few, t .shaped .few)

@@ -1,4 +1,4 @@
--- A list that is part of what a book holds has a plan, so each request that makes it is accepted.
+-- A list that is part of what a book holds has a plan, so each record that makes it is accepted.
 -- Assumes nothing.
 use mathlib.Core.List.{List, [], _∷_, _++_}
 use mathlib.Core.Logic.{⊎-elim}
@@ -12,14 +12,14 @@ use Rattle.schedule.specs.Listed.{Listed, ordered, Chain, link, join, written, 
 use Rattle.schedule.proofs.Rows.{put-all}
 use Rattle.schedule.proofs.Chains.{reads-closed, reads-loopless, ordered-append, getD-put}
 use Rattle.schedule.proofs.Made.{row-has-plan}
-use Rattle.planner.specs.declared.book.Book.{Book}
-use Rattle.planner.specs.declared.book.Request.{Request}
-use Rattle.planner.specs.declared.book.Request.the-variants.{Job, Before, Earlier}
-use Rattle.planner.specs.declared.book.Applied.{Applied}
-use Rattle.planner.specs.Told.{jobs-of, latest-of, Told, nothing-listed}
-use Rattle.planner.proofs.Judged.{unless-free}
-use Rattle.planner.proofs.Requests.{among-planned}
-use Rattle.planner.specs.Outcome.{Planned, Grown, Judged, Outcome, grow}
+use Rattle.book.specs.Told.{Book, jobs-of, latest-of, Told, nothing-listed}
+use Rattle.refusal.specs.Table.{Clear}
+use Rattle.refusal.proofs.Table.{table-free}
+use Rattle.planner.specs.Requests.{Plannable, grow, request-checks, accepts-with, Applied, Grown, Outcome}
+use Rattle.planner.proofs.OneByOne.{among-planned}
+use Rattle.records.specs.declared.Record.{Record}
+use Rattle.records.specs.declared.Record.the-variants.{Job, Order, Deadline}
+use Rattle.jobfile.specs.Reader.{asks}
 
 -- the first jobs of the book with their latest times, and orders that the book has
 pub record Part (k : Book) (M : Listed) : Type 0 where
@@ -30,11 +30,11 @@ pub record Part (k : Book) (M : Listed) : Type 0 where
   pub held : (a b : ℕ) → T (ordered (M .orders) a b) → (a < length (M .starts)) × (b < length (M .starts))
   pub order : (a b : ℕ) → T (ordered (M .orders) a b) → T (jobs-of k .before a b)
 
--- the request that comes next: the next job, or once all are there an order that the book has
-abbrev pub Next : Book → Listed → Request → Type 0
+-- the record that comes next: the next job, or once all are there an order that the book has
+abbrev pub Next : Book → Listed → Record → Type 0
 Next k M (Job start deadline) = (length (M .starts) < k .size) × (start ≡ jobs-of k .start (length (M .starts))) × (deadline ≡ latest-of k (length (M .starts)))
-Next k M (Before a b) = (k .size ≤ length (M .starts)) × T (jobs-of k .before (a .0) (b .0))
-Next k M (Earlier job deadline) = ⊥
+Next k M (Order a b) = (k .size ≤ length (M .starts)) × T (jobs-of k .before a b)
+Next k M (Deadline job deadline) = ⊥
 
 pub part-nothing : (k : Book) → Part k nothing-listed
 unfolding ordered
@@ -84,12 +84,12 @@ module _ (k : Book) (L : Listed) (t : Told k L) where
         closed .joins a b c (h .0) (h .1) (t .shaped .before-rest b c v .1) u v
 
     -- the plan of the book is a plan of the part
-    pub part-planned : Planned M
+    part-planned : Plannable M
     part-planned = among-planned M (jobs-of k) (latest-of k) (record { even = p .even; held = p .held }) (p .fewer) (p .start) (p .deadline) (λ a b la lb c. part-chain c)
         (row-has-plan 2 (jobs-of k) (t .holds .early) (latest-of k) (omega arith) (omega arith) closed (t .holds .earliest) (t .holds .latest .consistent))
 
-  -- ---- one request more
-  pub next-part : (M : Listed) (q : Request) → Part k M → Next k M q → Part k (grow M q)
+  -- ---- one record more
+  pub next-part : (M : Listed) (r : Record) → Part k M → Next k M r → Part k (grow M (asks r))
   unfolding with-job with-order written
   next-part M (Job s d) p (room, es, ed) = record {
     even = omega (arith, p .even, length-append (M .starts) (s ∷ []), length-append (M .deadlines) (d ∷ []));
@@ -100,35 +100,35 @@ module _ (k : Book) (L : Listed) (t : Told k L) where
     held = λ a b x. let h = p .held a b x in (omega (arith, length-append (M .starts) (s ∷ [])), omega (arith, length-append (M .starts) (s ∷ [])));
     order = p .order;
   }
-  next-part M (Before a b) p (all, x) = record {
+  next-part M (Order a b) p (all, x) = record {
     even = p .even;
     fewer = p .fewer;
     start = p .start;
     deadline = p .deadline;
-    held = λ c d y. ⊎-elim (λ u. p .held c d u) (λ u. let h = t .shaped .before-rest (a .0) (b .0) x in (omega (arith, u .0), omega (arith, u .1))) (ordered-append (M .orders) (a .0) (b .0) c d .0 y);
-    order = λ c d y. ⊎-elim (λ u. p .order c d u) (λ u. rw (u .0, u .1) x) (ordered-append (M .orders) (a .0) (b .0) c d .0 y);
+    held = λ c d y. ⊎-elim (λ u. p .held c d u) (λ u. let h = t .shaped .before-rest a b x in (omega (arith, u .0), omega (arith, u .1))) (ordered-append (M .orders) a b c d .0 y);
+    order = λ c d y. ⊎-elim (λ u. p .order c d u) (λ u. rw (u .0, u .1) x) (ordered-append (M .orders) a b c d .0 y);
   }
-  next-part M (Earlier j d) p x = absurd x
+  next-part M (Deadline j d) p x = absurd x
 
-  -- is accepted
-  judged-grown : (M : Listed) (value : ℕ) (b : Book) (r : Applied) → Part k M → Judged M value b r → Grown M value r
-  judged-grown M value b r p x = unless-free _ _ _ r (λ no. no (part-planned M p)) x
-
-  pub next-accepted : (M : Listed) (q : Request) (b : Book) (r : Applied) → Part k M → Next k M q → Outcome M b q r → (value : ℕ) × Grown (grow M q) value r
-  next-accepted M (Job s d) b r p (room, es, ed) x =
+  -- passes every check
+  next-clear : (M : Listed) (r : Record) → Part k M → Next k M r → Clear (request-checks M (asks r))
+  next-clear M (Job s d) p (room, es, ed) =
       let i = length (M .starts) in
       let low = start-low i room in
       let high = latest-high i room in
       let apart = window i room in (
-        i,
-        judged-grown (grow M (Job s d)) i b r (next-part M (Job s d) p (room, es, ed))
-            (unless-free _ _ _ r (λ f. omega arith) (unless-free _ _ _ r (λ f. ⊎-elim (λ g. omega arith) (λ g. omega arith) f) (unless-free _ _ _ r (λ f. omega (arith, t .shaped .few)) x))),
+        ((λ f. omega (arith, t .shaped .few)), ((λ f. ⊎-elim (λ g. omega arith) (λ g. omega arith) f), λ f. omega arith)),
+        λ none. none (part-planned (grow M (asks (Job s d))) (next-part M (Job s d) p (room, es, ed))),
       )
-  next-accepted M (Before a c) b r p (all, y) x =
-      let h = t .shaped .before-rest (a .0) (c .0) y in (
-        0,
-        judged-grown (grow M (Before a c)) 0 b r (next-part M (Before a c) p (all, y))
-            (unless-free _ _ _ r (λ f. ⊎-elim (λ e. let z = rw e at y in loopless (c .0) (c .0) z z) (λ z. loopless (a .0) (c .0) y (part-chain M p z)) f)
-            (unless-free _ _ _ r (λ f. ⊎-elim (λ g. omega arith) (λ g. omega arith) f) x)),
+  next-clear M (Order a c) p (all, y) =
+      let h = t .shaped .before-rest a c y in (
+        (
+          (λ f. ⊎-elim (λ g. omega arith) (λ g. omega arith) f),
+          λ f. ⊎-elim (λ e. let z = rw e at y in loopless c c z z) (λ z. loopless a c y (part-chain M p z)) f,
+        ),
+        λ none. none (part-planned (grow M (asks (Order a c))) (next-part M (Order a c) p (all, y))),
       )
-  next-accepted M (Earlier j d) b r p y x = absurd y
+  next-clear M (Deadline j d) p y = absurd y
+
+  pub next-accepted : (M : Listed) (r : Record) (b : Book) (a : Applied) → Part k M → Next k M r → Outcome M b (asks r) a → Grown (grow M (asks r)) (accepts-with M (asks r)) a
+  next-accepted M r b a p n x = table-free _ _ _ a (next-clear M r p n) x

@@ -2,123 +2,79 @@
 -- Assumes nothing.
 use mathlib.Core.List.{List, [], _∷_, _++_, append-assoc}
 use mathlib.Core.Path.{_≡_, refl, sym, ap, ap₂, subst, _∙_}
-use Prim.Native.Nat.{ℕ, _+_, _*_, _≤_}
+use Prim.Native.Nat.{ℕ, _+_, _≤_}
 use native.Mathlib.Nat.{add-zero}
 use native.Mathlib.Omega.{arith}
-use lib.ListN.{length, getD, take, replicate, length-append}
-use lib.Seq.{getD-append-add, take-at}
+use lib.Dec.{T}
+use lib.ListN.{length, take, replicate, length-append}
 use Rattle.schedule.specs.Listed.{Listed}
-use Rattle.planner.specs.declared.book.Book.{Book}
-use Rattle.planner.specs.declared.book.Request.{Request}
-use Rattle.planner.specs.declared.book.Request.the-variants.{Job, Before, Earlier}
-use Rattle.planner.specs.declared.refusal.Answer.{Answer}
-use Rattle.planner.specs.declared.refusal.Answer.the-variants.{Accepted}
-use Rattle.planner.specs.Answer.{number-of}
-use Rattle.planner.specs.Told.{Told, Made, nothing-listed}
-use Rattle.planner.specs.Unless.{refused, passed}
-use Rattle.planner.specs.Outcome.{grow}
-use Rattle.planner.proofs.Judged.{unless-free}
-use Rattle.planner.proofs.Same.{told-one}
-use Rattle.jobfile.specs.declared.record.Asked.the-variants.{Known}
-use Rattle.jobfile.specs.declared.reader.Event.the-variants as event
-use Rattle.jobfile.specs.declared.reader.Step.{Step}
-use Rattle.jobfile.specs.Record.{word-at, JB, OR, TG, record-of, spell, asked, asked-at}
-use Rattle.jobfile.specs.Read.{stays, Answers, ReadOutcome, ReadsRecord}
-use Rattle.jobfile.specs.Write.{spelled, asks-of, file-of, WritesBook}
-use Rattle.jobfile.specs.File.{Pass, halts, goes, ReadsFile}
+use Rattle.book.specs.Told.{Book, Told, Made, nothing-listed}
+use Rattle.book.proofs.Same.{told-one}
+use Rattle.planner.specs.Requests.{grow, answered, Applied}
+use Rattle.records.specs.declared.Record.{Record}
+use Rattle.records.specs.Record.{bytes-of, length-of, Stands}
+use Rattle.records.proofs.Standing.{bytes-length, stands-here}
+use Rattle.jobfile.specs.Reader.{Step, step, halts, asks, ReadsRecord}
+use Rattle.jobfile.specs.File.{SingleReads, last, more, ReadsFile}
+use Rattle.jobfile.specs.Writer.{bytes-of-all, records-of, file-of, WritesBook}
 use Rattle.jobfile.specs.RoundTrip.{ReadsBack}
-use Rattle.jobfile.proofs.Spelled.{spell-length, spelled-length}
-use Rattle.jobfile.proofs.Part.{Part, Next, part-nothing, next-part, next-accepted}
-use Rattle.jobfile.proofs.Retold.{grown, Fits, done, next, asks-fit, retold, told-again}
+use Rattle.jobfile.proofs.Reading.{step-answers, reads-standing, reads-end}
 use Rattle.jobfile.proofs.Length.{file-short}
-use Rattle.jobfile.proofs.Whole.{request-inside}
+use Rattle.jobfile.proofs.Writing.{written-file}
+use Rattle.jobfile.proofs.Part.{Part, Next, part-nothing, next-part, next-accepted}
+use Rattle.jobfile.proofs.Retold.{grown, Fits, done, next, records-fit, retold, told-again}
 
--- ---- a record behind others is read as it was spelled
-word-front : (front l : List ℕ) (j : ℕ) → word-at (front ++ l) (length front + j) ≡ word-at l j
-word-front front l j =
-    let e : length front + j + 1 ≡ length front + (j + 1) = omega arith in
-    ap₂ (λ (x y : ℕ). 256 * x + y) (getD-append-add front l j 0) (ap (λ (n : ℕ). getD (front ++ l) n 0) e ∙ getD-append-add front l (j + 1) 0)
-
-asked-front : (front rest : List ℕ) (mark first second : ℕ) → asked-at (front ++ (record-of mark first second ++ rest)) (length front) ≡ asked mark first second
-asked-front front rest mark first second =
-    let l = record-of mark first second ++ rest in
-    let m : word-at (front ++ l) (length front) ≡ mark = ap (word-at (front ++ l)) (sym (add-zero (length front))) ∙ word-front front l 0 ∙ omega arith in
-    let x : word-at (front ++ l) (length front + 2) ≡ first = word-front front l 2 ∙ omega arith in
-    let y : word-at (front ++ l) (length front + 4) ≡ second = word-front front l 4 ∙ omega arith in
-    λ i. asked (m i) (x i) (y i)
-
-read-spelled : (front rest : List ℕ) (q : Request) → asked-at (front ++ (spell q ++ rest)) (length front) ≡ Known q
-read-spelled front rest (Job s d) = asked-front front rest JB s d
-read-spelled front rest (Before a b) = asked-front front rest OR (a .0) (b .0)
-read-spelled front rest (Earlier j d) = asked-front front rest TG (j .0) d
-
--- ---- reading on: the book k holds L; the requests left come next to the list M that is read
+-- ---- reading on: the book k holds L; the records left come next to the list M that is read
 module _ (k : Book) (L : Listed) (t : Told k L) (file : List ℕ) (short : length file ≤ 24576) where
-  -- what a read of a whole record gives
-  read-asked : (b : Book) (at : ℕ) (q : Request) (r : Step) → at + 6 ≤ length file → asked-at file at ≡ Known q → ReadsRecord b file at r → Answers b q at r
-  read-asked b at q r h e x = rw e at (unless-free _ _ _ r (λ f. omega arith) (unless-free _ _ _ r (λ f. omega arith) (unless-free _ _ _ r (λ f. omega arith) (x .outcome))))
+  -- the next record stands at the offset
+  standing : (q : Record) (qs : List Record) (front : List ℕ) → file ≡ front ++ bytes-of-all (q ∷ qs) → Stands file (length front) q
+  unfolding bytes-of-all
+  standing q qs front e = rw e (rw append-assoc at (stands-here front (bytes-of-all qs) q))
 
-  -- and one at the length
-  read-end : (b : Book) (r : Step) → ReadOutcome b file (length file) r → r ≡ stays b (length file) event.End
-  read-end b r (refused f x) = absurd (omega arith)
-  read-end b r (passed f (refused g x)) = x
-  read-end b r (passed f (passed g x)) = absurd (g refl)
+  -- and is accepted
+  accepted-next : (M : Listed) (q : Record) (b : Book) (at : ℕ) (r : Step) → Told b M → Part k M → Next k M q → Stands file at q → ReadsRecord b file at r →
+      (r .number ≡ 0) × (r .at ≡ at + length-of q) × Told (r .book) (grow M (asks q))
+  accepted-next M q b at r s p n here x =
+      let y = reads-standing b file at r q short here x in
+      let z = next-accepted k L t M q b (answered (r .book) (r .number) (r .value)) p n (y .1 .outcome M s) in
+      (ap (λ (a : Applied). a .number) (z .accepts), y .0, z .told)
 
-  -- where the requests left stand
-  left : (qs : List Request) (front : List ℕ) → file ≡ front ++ spelled qs → length file ≡ length front + 6 * length qs
-  left qs front e = ap length e ∙ length-append front (spelled qs) ∙ ap (λ (n : ℕ). length front + n) (spelled-length qs)
-
-  -- the next request is answered
-  read-next : (q : Request) (qs : List Request) (b : Book) (front : List ℕ) (at : ℕ) (r : Step) → file ≡ front ++ spelled (q ∷ qs) → at ≡ length front → ReadsRecord b file at r → Answers b q at r
-  unfolding spelled
-  read-next q qs b front at r e f x = read-asked b at q r (omega (arith, left (q ∷ qs) front e)) (rw (e, f) (read-spelled front (spelled qs) q)) x
-
-  -- and accepted
-  accepted-next : (M : Listed) (q : Request) (b : Book) (at : ℕ) (r : Step) (a : Answer) → Told b M → Part k M → Next k M q → r .event ≡ event.Request a → Answers b q at r →
-      (number-of a ≡ 0) × Told (r .book) (grow M q)
-  accepted-next M q b at r a s p n g y =
-      let z = next-accepted k L t M q b (record { book = r .book; answer = y .answer }) p n (y .applies .outcome M s) in
-      let same : a ≡ Accepted (z .0) = cc (z .1 .answer, y .event) in
-      (ap number-of same, z .1 .told)
-
-  reads-on : (qs : List Request) (M : Listed) (b : Book) (front : List ℕ) (at : ℕ) (numbers : List ℕ) (r : Step) → Told b M → Part k M → Fits k M qs →
-      file ≡ front ++ spelled qs → at ≡ length front → Pass file b at numbers r →
-      (numbers ≡ replicate (length qs) 0) × Told (r .book) (grown M qs) × (r ≡ stays (r .book) (length file) event.End)
-  unfolding spelled grown
-  reads-on [] M b front at numbers r s p done e f (halts x g) =
-      let here : at ≡ length file = omega (arith, left [] front e) in
-      let y : r ≡ stays b (length file) event.End = read-end b r (rw here at (x .outcome)) in
-      (refl, rw y s, y ∙ ap (λ (c : Book). stays c (length file) event.End) (sym (ap (λ (z : Step). z .book) y)))
-  reads-on [] M b front at numbers r s p done e f (goes u a x g rest) =
-      absurd (omega (arith, left [] front e, request-inside b file at u a g (x .outcome) .whole))
-  reads-on (q ∷ qs) M b front at numbers r s p (next n more) e f (halts x g) =
-      let y = read-next q qs b front at r e f x in
-      absurd (g (y .answer) (y .event))
-  reads-on (q ∷ qs) M b front at numbers r s p (next n more) e f (goes {numbers = others} u a x g rest) =
-      let y = read-next q qs b front at u e f x in
-      let z = accepted-next M q b at u a s p n g y in
-      let ih = reads-on qs (grow M q) (u .book) (front ++ spell q) (u .at) others r (z .1) (next-part k L t M q p n) more (e ∙ sym (append-assoc front (spell q) (spelled qs)))
-      (omega (arith, y .moved, length-append front (spell q), spell-length q)) rest in
+  reads-on : (qs : List Record) (M : Listed) (b : Book) (front : List ℕ) (at : ℕ) (numbers : List ℕ) (r : Step) → Told b M → Part k M → Fits k M qs →
+      file ≡ front ++ bytes-of-all qs → at ≡ length front → SingleReads file b at numbers r →
+      (numbers ≡ replicate (length qs) 0) × Told (r .book) (grown M qs) × (r ≡ step (r .book) (length file) 255 0)
+  unfolding bytes-of-all grown
+  reads-on [] M b front at numbers r s p done e f (last x g) =
+      let here : at ≡ length file = f ∙ sym (add-zero (length front)) ∙ sym (ap length e ∙ length-append front []) in
+      let y : r ≡ step b (length file) 255 0 = reads-end b file r short (rw here at x) in
+      (refl, rw y s, y ∙ ap (λ (c : Book). step c (length file) 255 0) (sym (ap (λ (z : Step). z .book) y)))
+  reads-on [] M b front at numbers r s p done e f (more u x g rest) =
+      let here : at ≡ length file = f ∙ sym (add-zero (length front)) ∙ sym (ap length e ∙ length-append front []) in
+      absurd (step-answers b file at u x g .0 .1 .0 here)
+  reads-on (q ∷ qs) M b front at numbers r s p (next n rest) e f (last x g) =
+      let z = accepted-next M q b at r s p n (rw f (standing q qs front e)) x in
+      absurd (subst (λ (i : ℕ). T (halts i)) (z .0) g)
+  reads-on (q ∷ qs) M b front at numbers r s p (next n rest) e f (more {numbers = others} u x g reads) =
+      let z = accepted-next M q b at u s p n (rw f (standing q qs front e)) x in
+      let ih = reads-on qs (grow M (asks q)) (u .book) (front ++ bytes-of q) (u .at) others r (z .2) (next-part k L t M q p n) rest (e ∙ sym (append-assoc front (bytes-of q) (bytes-of-all qs)))
+      (omega (arith, z .1, length-append front (bytes-of q), bytes-length q)) reads in
       (ap₂ (λ (v : ℕ) (l : List ℕ). v ∷ l) (z .0) (ih .0), ih .1, ih .2)
 
--- a book written out and read into an empty one is accepted at every record, ends at the length, and gives the same book (01, Job file)
-pub round-trip : (k e : Book) → Made k → Told e nothing-listed → ReadsBack k e
+-- the file of a book, read into an empty one
+pub file-read-back : (k e : Book) (numbers : List ℕ) (r : Step) → Made k → Told e nothing-listed → SingleReads (file-of k) e 0 numbers r →
+    (numbers ≡ replicate (length (records-of k)) 0) × (r ≡ step k (length (file-of k)) 255 0)
 unfolding file-of
-round-trip k e m z numbers r pass =
-    let x = reads-on k (m .0) (m .1) (file-of k) (file-short k (m .0) (m .1)) (asks-of k) nothing-listed e [] 0 numbers r z (part-nothing k) (asks-fit k .0) refl refl pass in
-    (x .0, x .2 ∙ ap (λ (b : Book). stays b (length (file-of k)) event.End) (told-one (retold k) (r .book) k (x .1) (told-again k (m .0) (m .1))))
+file-read-back k e numbers r m z reads =
+    let x = reads-on k (m .0) (m .1) (file-of k) (omega (arith, file-short k (m .0) (m .1))) (records-of k) nothing-listed e [] 0 numbers r z (part-nothing k) (records-fit k .0) refl refl reads in
+    (x .0, x .2 ∙ ap (λ (b : Book). step b (length (file-of k)) 255 0) (told-one (retold k) (r .book) k (x .1) (told-again k (m .0) (m .1))))
 
--- the same by the calls: what write has written and read_file reads
-written-file : (k : Book) (old bytes : List ℕ) (n : ℕ) → WritesBook k old bytes (Accepted n) → (n ≡ length (file-of k)) × (take n bytes ≡ file-of k)
-written-file k old bytes n (refused f x) = absurd (let a = ap (λ (z : Answer × List ℕ). z .0) x in let z : _≡_ {A = ℕ} 0 1 = cc a in omega arith)
-written-file k old bytes n (passed f x) =
-    let a = ap (λ (z : Answer × List ℕ). z .0) x in
-    let e : n ≡ length (file-of k) = cc a in
-    (e, rw (ap (λ (z : Answer × List ℕ). z .1) x) (take-at (file-of k) _ n (sym e)))
+-- a book written out and read into an empty one is accepted at every record, ends at the length, and gives the same book
+pub round-trip : (k : Book) → Made k → ReadsBack k
+round-trip k m old new v e numbers r w z reads =
+    let f = written-file k old new v w in
+    let x = file-read-back k e numbers r m z (subst (λ (l : List ℕ). SingleReads l e 0 numbers r) (f .1) reads) in
+    (x .0, x .1 ∙ ap (λ (n : ℕ). step k n 255 0) (sym (f .0)))
 
-pub write-then-read : (k e : Book) (old bytes lent numbers : List ℕ) (n : ℕ) (r : Step) → Made k → Told e nothing-listed → WritesBook k old bytes (Accepted n) →
-    ReadsFile e (take n bytes) lent numbers r → n ≤ 6 * length lent → r ≡ stays k n event.End
-write-then-read k e old bytes lent numbers n r m z w x room =
-    let f = written-file k old bytes n w in
-    let y = unless-free _ _ _ (r, numbers) (λ g. omega (arith, g .1, f .0, ap length (f .1))) (x .outcome) in
-    rw (f .0) (round-trip k e m z (y .numbers) r (subst (λ (l : List ℕ). Pass l e 0 (y .numbers) r) (f .1) (y .pass)) .1)
+-- the same by one call of read_file
+pub write-then-read : (k e : Book) (old new lent answers : List ℕ) (v n : ℕ) (r : Step) → Made k → WritesBook k old new 0 v → Told e nothing-listed → ReadsFile e (take v new) lent answers n r →
+    r ≡ step k v 255 0
+write-then-read k e old new lent answers v n r m w z x = round-trip k m old new v e (x .numbers) r w z (x .reads) .1

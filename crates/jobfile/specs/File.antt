@@ -1,32 +1,25 @@
 -- A whole file read into a book.
 -- Assumes nothing.
-use mathlib.Core.List.{List, [], _∷_, _++_}
+use mathlib.Core.Bool.{not}
+use mathlib.Core.List.{List, [], _∷_}
 use mathlib.Core.Path.{_≡_}
-use Prim.Native.Nat.{ℕ, _/_, _<_, _≤_}
-use lib.ListN.{length, drop}
-use Rattle.planner.specs.declared.book.Book.{Book}
-use Rattle.planner.specs.declared.refusal.Answer.{Answer}
-use Rattle.planner.specs.Answer.{number-of}
-use Rattle.planner.specs.Told.{Made}
-use Rattle.planner.specs.Unless.{Unless}
-use Rattle.jobfile.specs.declared.reader.Event.the-variants as event
-use Rattle.jobfile.specs.declared.reader.Step.{Step}
-use Rattle.jobfile.specs.Read.{stays, ReadsRecord}
+use Prim.Native.Nat.{ℕ}
+use lib.Dec.{T}
+use lib.ListN.{length}
+use lib.Seq.{sets}
+use Rattle.book.specs.Told.{Book, Made}
+use Rattle.jobfile.specs.Reader.{Step, halts, ReadsRecord}
 
--- single reads from an offset on, up to the one that ends or stops: the number of each record's answer, 0 where it is accepted, and the last step (01, Job file: "One read takes one record")
-pub data Pass (file : List ℕ) : Book → ℕ → List ℕ → Step → Type 0 where
-  halts : {k : Book} {at : ℕ} {r : Step} → ReadsRecord k file at r → ((answer : Answer) → r .event ≡ event.Request answer → ⊥) → Pass file k at [] r
-  goes : {k : Book} {at : ℕ} {numbers : List ℕ} {s : Step} (r : Step) (answer : Answer) → ReadsRecord k file at r → r .event ≡ event.Request answer →
-      Pass file (r .book) (r .at) numbers s → Pass file k at (number-of answer ∷ numbers) s
+-- single reads from an offset on, up to the one that ends or stops: the number of each record, 0 where it is accepted, and the last step (01, Job file: "One read takes one record")
+pub data SingleReads (file : List ℕ) : Book → ℕ → List ℕ → Step → Type 0 where
+  last : {k : Book} {at : ℕ} {r : Step} → ReadsRecord k file at r → T (halts (r .number)) → SingleReads file k at [] r
+  more : {k : Book} {at : ℕ} {numbers : List ℕ} {s : Step} (r : Step) → ReadsRecord k file at r → T (not (halts (r .number))) →
+      SingleReads file (r .book) (r .at) numbers s → SingleReads file k at (r .number ∷ numbers) s
 
--- from offset 0; the bytes lent hold the numbers, and those beyond stay
-pub record Whole (k : Book) (file old new : List ℕ) (r : Step) : Type 0 where
+-- what read_file promises: single reads from offset 0, and how many records they answered; the first bytes lent get the numbers, and those beyond stay; `made` follows from the rest, and serves the next call
+pub record ReadsFile (k : Book) (file old new : List ℕ) (records : ℕ) (r : Step) : Type 0 where
   pub numbers : List ℕ
-  pub pass : Pass file k 0 numbers r
-  pub bytes : new ≡ numbers ++ drop (length numbers) old
-
--- what read_file promises: 8 where fewer bytes are lent than the file has whole records, unless the file itself is too long (01, Numbers of refusal: 8, 9)
-pub record ReadsFile (k : Book) (file old new : List ℕ) (r : Step) : Type 0 where
-  pub outcome : Unless {A = Step × List ℕ} ((length file ≤ 24576) × (length old < length file / 6)) (stays k 0 (event.Stopped 8 (length file / 6)), old)
-      (λ x. Whole k file old (x .1) (x .0)) (r, new)
+  pub count : records ≡ length numbers
+  pub reads : SingleReads file k 0 numbers r
+  pub bytes : new ≡ sets old 0 numbers
   pub made : Made (r .book)

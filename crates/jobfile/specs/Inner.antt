@@ -1,3 +1,3 @@
 -- What the private functions promise to each other. Nobody has to believe these: the public promises are proved from them.
-pub mod Write
 pub mod File
+pub mod Writer

@@ -3,14 +3,13 @@
 use mathlib.Core.List.{List}
 use mathlib.Core.Path.{_≡_}
 use Prim.Native.Nat.{ℕ}
-use lib.ListN.{length, replicate}
-use Rattle.planner.specs.declared.book.Book.{Book}
-use Rattle.jobfile.specs.declared.reader.Event.the-variants as event
-use Rattle.jobfile.specs.declared.reader.Step.{Step}
-use Rattle.jobfile.specs.Read.{stays}
-use Rattle.jobfile.specs.Write.{asks-of, file-of}
-use Rattle.jobfile.specs.File.{Pass}
+use lib.ListN.{length, take, replicate}
+use Rattle.book.specs.Told.{Book, Told, nothing-listed}
+use Rattle.jobfile.specs.Reader.{Step, step}
+use Rattle.jobfile.specs.Writer.{records-of, WritesBook}
+use Rattle.jobfile.specs.File.{SingleReads}
 
--- the file of book k read into the book e by single reads: each record is accepted, and the reading ends at the length with book k (01, Job file)
-abbrev pub ReadsBack : Book → Book → Type 0
-ReadsBack k e = (numbers : List ℕ) (r : Step) → Pass (file-of k) e 0 numbers r → (numbers ≡ replicate (length (asks-of k)) 0) × (r ≡ stays k (length (file-of k)) event.End)
+-- the bytes that a call of write gave, cut to the value told and read into an empty book: each record is accepted, and the reading ends at their length with the same book (01, Job file)
+abbrev pub ReadsBack : Book → Type 0
+ReadsBack k = (old new : List ℕ) (v : ℕ) (e : Book) (numbers : List ℕ) (r : Step) → WritesBook k old new 0 v → Told e nothing-listed → SingleReads (take v new) e 0 numbers r →
+    (numbers ≡ replicate (length (records-of k)) 0) × (r ≡ step k v 255 0)

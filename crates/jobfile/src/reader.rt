@@ -1,16 +1,14 @@
 // One record read at an offset.
-use crate::record;
-use crate::record::Asked;
-use planner::Answer;
-use planner::Book;
-ghost use Rattle.planner.specs.Told.{Made, held};
-ghost use Rattle.jobfile.specs.Read.{ReadsRecord};
-
-pub struct Step {
-    pub book: Book,
-    pub at: usize,
-    pub event: Event,
-}
+use book::Before;
+use book::Times;
+use planner::Request;
+use records::Found;
+use records::Record;
+use refusal::Answer;
+use schedule::JobIndex;
+ghost use mathlib.Core.Path.{_≡_};
+ghost use Rattle.book.specs.Told.{Made, held};
+ghost use Rattle.jobfile.specs.Reader.{Tells, ReadsRecord, step, asks};
 
 pub enum Event {
     Request(Answer),
@@ -19,70 +17,33 @@ pub enum Event {
     Stopped(u8, usize),
 }
 
-// A record read into a book taken and given back.
-pub fn read(book: Book, file: &[u8], at: usize) -> Step
-    requires { ⌜ Made book ⌝ }
-    ensures { λ r. ⌜ ReadsRecord book (now (file .entry)) at r ⌝ }
+// The request is answered, refused or not, and the offset moves on; at the end and at a stop the book and the offset stay.
+pub fn read(times: &mut Times, before: &mut Before, file: &[u8], at: &mut usize) -> Event
+    requires { ⌜ Made (held (now times) (now before)) ⌝ }
+    ensures { λ r. ⌜ Tells r (λ n v. ReadsRecord (held (now (times .entry)) (now (before .entry))) (now (file .entry)) (now (at .entry)) (step (held (now (times .exit)) (now (before .exit))) (now (at .exit)) n v)) ⌝ }
 {
-    let mut size = book.size;
-    let mut start = book.start;
-    let mut latest = book.latest;
-    let mut before = book.before;
-    let mut moved = at;
-    let event = read_into(
-        &mut size,
-        &mut start,
-        &mut latest,
-        &mut before,
-        file,
-        &mut moved,
-    );
-    let next = Book {
-        size,
-        start,
-        latest,
-        before,
-    };
-    Step {
-        book: next,
-        at: moved,
-        event,
+    let offset = *at;
+    let found = records::record_at(file, offset);
+    match found {
+        Found::Record(told) => {
+            *at = offset + records::length_of(told);
+            let answer = planner::apply(times, before, asked(told));
+            Event::Request(answer)
+        }
+        Found::End => Event::End,
+        Found::Stopped(number, value) => Event::Stopped(number, value),
     }
 }
 
-// The book lies in its four parts. The request is answered, refused or not, and the offset moves on; at the end and at a stop both stay.
-pub fn read_into(
-    size: &mut usize,
-    start: &mut [u16; 64],
-    latest: &mut [u16; 64],
-    before: &mut [u64; 64],
-    file: &[u8],
-    at: &mut usize,
-) -> Event
-    requires { ⌜ Made (held (now size) (now start) (now latest) (now before)) ⌝ }
-    ensures { λ r. ⌜ ReadsRecord (held (now (size .entry)) (now (start .entry)) (now (latest .entry)) (now (before .entry))) (now (file .entry)) (now (at .entry)) (record { book = held (now (size .exit)) (now (start .exit)) (now (latest .exit)) (now (before .exit)); at = now (at .exit); event = r }) ⌝ }
+// The request that a record asks.
+fn asked(told: Record) -> Request
+    ensures { λ r. ⌜ r ≡ asks told ⌝ }
 {
-    let length = file.len();
-    let offset = *at;
-    if length > 24576 {
-        return Event::Stopped(9, 0);
-    }
-    if offset == length {
-        return Event::End;
-    }
-    if offset > length {
-        return Event::Stopped(11, offset);
-    }
-    if length - offset < 6 {
-        return Event::Stopped(11, offset);
-    }
-    let asked = record::asked_at(file, offset);
-    match asked {
-        Asked::Known(request) => {
-            *at = offset + 6;
-            let answer = planner::amend(size, start, latest, before, request);
-            Event::Request(answer)
+    match told {
+        Record::Job(start, deadline) => Request::Job(start, deadline),
+        Record::Order(first, second) => {
+            Request::Before(JobIndex(first as usize), JobIndex(second as usize))
         }
-        Asked::Unknown => Event::Stopped(10, offset),
+        Record::Deadline(job, deadline) => Request::Earlier(JobIndex(job as usize), deadline),
     }
 }

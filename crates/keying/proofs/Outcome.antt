@@ -1,62 +1,72 @@
--- What follows from the promise of `key`.
+-- What follows from the promise of `key`: one outcome, and what was written.
 -- Assumes nothing.
-use mathlib.Core.Bool.{Bool, true, false, cond}
 use mathlib.Core.List.{List, _++_}
-use mathlib.Core.Path.{_≡_, refl, sym, _∙_}
-use Prim.Native.Nat.{ℕ, _*_, _≤_, _<_}
+use mathlib.Core.Bool.{true, false, cond}
+use mathlib.Core.Path.{_≡_, refl, sym, ap, _∙_}
+use Prim.Native.Nat.{ℕ, _+_, _≤_}
 use native.Mathlib.Omega.{arith}
-use lib.Dec.{leb}
-use lib.ListN.{length, getD, drop}
-use borrow.Author.Tests.{leb-true, le-leb}
-use Rattle.keying.specs.Text.{Meaning, records, mistake, meaning}
-use Rattle.keying.specs.File.{file-bytes, record-at}
-use Rattle.keying.specs.Keys.{Keys, answered, left}
-use Rattle.keying.specs.declared.entry.Record.{Record}
+use lib.Dec.{eqb}
+use lib.ListN.{length, drop, length-append}
+use lib.Seq.{sets, sets-eq}
+use Rattle.keying.specs.Slip.{slip-number}
+use Rattle.keying.specs.Text.{mistake, Meaning, meaning}
+use Rattle.keying.specs.Keys.{Answers, left, Keys}
+use Rattle.keying.specs.Inner.Walk.{Walks}
+use Rattle.keying.specs.declared.entry.Slip.{Slip}
+use Rattle.keying.specs.declared.entry.Slip.the-variants.{UnknownWord, MissingField, ExtraField, NotNumber, TooLarge, TooMany, CommaNumber}
+use Rattle.keying.specs.declared.keyed.Mistake.{Mistake}
 use Rattle.keying.specs.declared.keyed.Keyed.{Keyed}
-use Rattle.keying.specs.declared.keyed.Keyed.the-variants.{Written, Short}
+use Rattle.keying.specs.declared.keyed.Keyed.the-variants as keyed
 use Rattle.keying.proofs.Walk.{meaning-few}
-use Rattle.keying.proofs.Round.{no-record, reads-back}
 
--- no second outcome meets the promise
+-- ---- from the two walks
+-- the bytes lent are enough for a full file
+module _ (text old mid new : List ℕ) (room : 24576 ≤ length old) where
+  pub keys-wrong : (m : Mistake) → Walks text false old (keyed.Mistake m) new → Keys text old (keyed.Mistake m) new
+  keys-wrong m w = record { answer = w .answer; bytes = w .bytes ∙ ap (λ e. left e (meaning text .file) old) (sym (w .answer)) }
+
+  pub keys-written : (n : ℕ) (r : Keyed) → Walks text false old (keyed.Written n) mid → Walks text true mid r new → Keys text old r new
+  keys-written n r v w = let whole : 0 + length (meaning text .file) ≡ length (meaning text .file) = omega arith in record {
+    answer = w .answer;
+    bytes = w .bytes ∙ ap (λ l. sets l 0 (meaning text .file)) (v .bytes) ∙ sets-eq (meaning text .file) old 0 (omega (arith, meaning-few text))
+        ∙ ap (λ k. meaning text .file ++ drop k old) whole ∙ ap (λ e. left e (meaning text .file) old) (sym (v .answer .0));
+  }
+
+-- ---- one outcome
+slip-one : (s t : Slip) → slip-number s ≡ slip-number t → s ≡ t
+slip-one s t e = sym (back s) ∙ ap named e ∙ back t
+  where
+    named : ℕ → Slip
+    named n =
+        cond (eqb n 1) UnknownWord (cond (eqb n 2) MissingField (cond (eqb n 3) ExtraField
+        (cond (eqb n 4) NotNumber (cond (eqb n 5) TooLarge (cond (eqb n 6) TooMany CommaNumber)))))
+
+    back : (s : Slip) → named (slip-number s) ≡ s
+    back UnknownWord = refl
+    back MissingField = refl
+    back ExtraField = refl
+    back NotNumber = refl
+    back TooLarge = refl
+    back TooMany = refl
+    back CommaNumber = refl
+
+mistake-one : (l e n s z l′ e′ n′ s′ z′ : ℕ) → mistake l e n s z ≡ mistake l′ e′ n′ s′ z′ → (l ≡ l′) × (e ≡ e′) × (n ≡ n′) × (s ≡ s′) × (z ≡ z′)
+mistake-one l e n s z l′ e′ n′ s′ z′ p = (cc, cc, cc, cc, cc)
+
+answers-one : (m : Meaning) (r s : Keyed) → Answers m r → Answers m s → r ≡ s
+answers-one m (keyed.Written n) (keyed.Written k) x y = ap keyed.Written (x .1 ∙ sym (y .1))
+answers-one m (keyed.Written n) (keyed.Mistake a) x y = absurd (let z : _≡_ {A = ℕ} 0 1 = cc (sym (x .0) ∙ y) in omega arith)
+answers-one m (keyed.Mistake a) (keyed.Written k) x y = absurd (let z : _≡_ {A = ℕ} 0 1 = cc (sym (y .0) ∙ x) in omega arith)
+answers-one m (keyed.Mistake a) (keyed.Mistake b) x y =
+    let same = mistake-one _ _ _ _ _ _ _ _ _ _ (sym x ∙ y) in
+    let slip = slip-one (a .slip) (b .slip) (same .2) in
+    λ i. keyed.Mistake (record { line = same .0 i; entry = same .1 i; slip = slip i; start = same .3 i; size = same .4 i })
+
 pub keys-only : (text out : List ℕ) (r s : Keyed) (a b : List ℕ) → Keys text out r a → Keys text out s b → (r ≡ s) × (a ≡ b)
-keys-only text out r s a b p q = (p .answer ∙ sym (q .answer), p .bytes ∙ sym (q .bytes))
+keys-only text out r s a b p q = (answers-one (meaning text) r s (p .answer) (q .answer), p .bytes ∙ sym (q .bytes))
 
--- an answer of n bytes written
-pub record Filed (text out : List ℕ) (n : ℕ) (after : List ℕ) : Type 0 where
-  pub all : List Record
-  pub means : meaning text ≡ records all
-  pub size : n ≡ 6 * length all
-  pub within : n ≤ length out
-  pub file : after ≡ file-bytes all ++ drop (6 * length all) out
-
-pub filed : (text out : List ℕ) (n : ℕ) (after : List ℕ) → Keys text out (Written n) after → Filed text out n after
-unfolding answered left
-filed text out n after k = go (meaning text) refl (k .answer) (k .bytes)
-  where
-    go : (m : Meaning) → meaning text ≡ m → Written n ≡ answered m out → after ≡ left m out → Filed text out n after
-    go (records rs) e a f = fits (leb (6 * length rs) (length out)) refl a f
-      where
-        fits : (t : Bool) → leb (6 * length rs) (length out) ≡ t → Written n ≡ cond t (Written (6 * length rs)) (Short (6 * length rs))
-            → after ≡ cond t (file-bytes rs ++ drop (6 * length rs) out) out → Filed text out n after
-        fits true q a f =
-            let size : n ≡ 6 * length rs = cc in
-            record { all = rs; means = e; size = size; within = omega (arith, leb-true (6 * length rs) (length out) q); file = f }
-        fits false q a f = absurd (let z : _≡_ {A = ℕ} 0 1 = cc in omega arith)
-    go (mistake line slip) e a f = absurd (let z : _≡_ {A = ℕ} 0 1 = cc in omega arith)
-
--- reading the bytes written gives the records keyed, each at its place
-pub keyed-back : (text out : List ℕ) (n : ℕ) (after : List ℕ) (f : Filed text out n after) (i : ℕ) → i < length (f .all)
-    → record-at after (6 * i) ≡ getD (f .all) i no-record
-keyed-back text out n after f i h = rw (f .file) (reads-back (f .all) (drop (6 * length (f .all)) out) i h)
-
--- bytes for 4,096 records are never too few (01, Numbers and limits: "at most 24,576 bytes")
-pub never-short : (text out : List ℕ) (n : ℕ) (after : List ℕ) → 24576 ≤ length out → Keys text out (Short n) after → ⊥
-unfolding answered
-never-short text out n after h k = go (meaning text) (meaning-few text) (k .answer)
-  where
-    go : (m : Meaning) → ((all : List Record) → m ≡ records all → length all ≤ 4096) → Short n ≡ answered m out → ⊥
-    go (records rs) few e =
-        let fits : 6 * length rs ≤ length out = omega (arith, few rs refl) in
-        let z : _≡_ {A = ℕ} 0 1 = cc (simp (le-leb (6 * length rs) (length out) fits) at e) in
-        omega arith
-    go (mistake line slip) few e = let z : _≡_ {A = ℕ} 0 1 = cc in omega arith
+-- what is written lies within the bytes lent
+pub written-within : (text out : List ℕ) (n : ℕ) (after : List ℕ) → Keys text out (keyed.Written n) after → n ≤ length after
+written-within text out n after k =
+    let file = meaning text .file in
+    omega (arith, ap length (k .bytes ∙ ap (λ e. left e file out) (k .answer .0)), length-append file (drop (length file) out), k .answer .1)

@@ -1,159 +1,193 @@
--- Where a walk over a job file stands, and what six bytes more do.
+-- A walk over a job file: its lines, one outcome, how long they are.
 -- Assumes nothing.
-use mathlib.Core.Bool.{Bool, true, false, cond, _&&_}
-use mathlib.Core.List.{List, [], _∷_, _++_}
-use mathlib.Core.Path.{_≡_, refl, sym, ap, _∙_}
-use Prim.Native.Nat.{ℕ, suc, _+_, _*_, _≤_, _<_}
-use native.Mathlib.Decide.{decLe}
-use native.Mathlib.Nat.{lt-of-not-le}
+use mathlib.Core.Bool.{Bool, true, false, cond}
+use mathlib.Core.List.{List, [], _++_, append-assoc, append-nil}
+use mathlib.Core.Logic.{_⊎_, inl, inr}
+use mathlib.Core.Path.{_≡_, refl, sym, ap, ap₂, subst, _∙_}
+use Prim.Native.Nat.{ℕ, _+_, _*_, _≤_, _<_}
 use native.Mathlib.Omega.{arith}
-use lib.Dec.{leb, ltb}
-use lib.ListN.{length, getD, drop, length-append, length-drop, drop-of-length-le}
-use lib.Seq.{drop-cons}
-use borrow.Author.Tests.{lt-ltb, le-ltb, ltb-true, leb-true}
-use Rattle.keying.specs.Text.{known}
-use Rattle.keying.specs.File.{number-at, record-at}
-use Rattle.keying.specs.Lines.{Contents, records, broken, contents, lined, Lines}
-use Rattle.keying.specs.declared.lined.Lined.{Lined}
-use Rattle.keying.specs.declared.lined.Lined.the-variants.{Written, Short}
-use Rattle.keying.specs.Inner.Walk.{surveyed}
-use Rattle.keying.specs.declared.entry.Record.{Record}
-use Rattle.keying.specs.declared.lined.Survey.the-variants.{Records, Broken}
+use lib.Dec.{eqb}
+use lib.ListN.{length, getD, length-append}
+use lib.Seq.{sets, length-sets}
+use borrow.Author.Tests.{ne-eqb}
+use Rattle.refusal.specs.declared.Answer.{Answer}
+use Rattle.refusal.specs.declared.Answer.the-variants.{Accepted, Refused}
+use Rattle.refusal.specs.Table.{Refuses}
+use Rattle.refusal.proofs.Says.{says-only}
+use Rattle.refusal.proofs.Table.{refuses-one, refuses-not-clear, refuses-each}
+use Rattle.records.specs.declared.Record.{Record}
+use Rattle.records.specs.declared.Record.the-variants.{Job, Order, Deadline}
+use Rattle.records.specs.declared.Found.the-variants as found
+use Rattle.records.specs.Record.{length-of}
+use Rattle.records.specs.Find.{find-checks, Finds}
+use Rattle.records.proofs.Standing.{first-of, second-of, length-six, stands-one, stands-within, stands-fields}
+use Rattle.records.proofs.Finding.{stands-clear, finds-record, finds-stop}
+use Rattle.records.proofs.Stored.{sets-append}
+use Rattle.text.specs.Put.{Puts}
+use Rattle.text.proofs.Decimal.{decimal-short}
+use Rattle.text.proofs.Putting.{puts-stored}
+use Rattle.keying.specs.Lines.{line-of, Told, stops, shows, Lines}
+use Rattle.keying.specs.Inner.Walk.{Prints}
+use Rattle.keying.proofs.Walk.{stored-none, stored-length}
 
--- the walk stands at an offset, past the records `done`
-pub record Passed (file : List ℕ) (at : ℕ) (done : List Record) : Type 0 where
-  pub onward : contents done (drop at file) ≡ contents [] file
-  pub place : at ≡ 6 * length done
+-- ---- one outcome
+pub told-one : {file : List ℕ} {at n v m w : ℕ} {s t : List ℕ} → Told file at s n v → Told file at t m w → (s ≡ t) × (n ≡ m) × (v ≡ w)
+told-one {file} {at} {n} {v} {m} {w} (stops x) (stops y) = let same = refuses-one (find-checks file at) n v m w x y in (refl, same .0, same .1)
+told-one {file} {at} {n} {v} (stops x) (shows r c z k) = absurd (refuses-not-clear (find-checks file at) n v x c)
+told-one {file} {at} {n} {v} {m} {w} (shows r c z k) (stops y) = absurd (refuses-not-clear (find-checks file at) m w y c)
+told-one {file} {at} {n} {v} {m} {w} (shows r c z k) (shows {text = u} q d y l) =
+    let same = stands-one file at r q z y in
+    let more = told-one {m = m} {w = w} k (subst (λ p. Told file (at + length-of p) u m w) (sym same) l) in
+    (ap₂ (λ p u. line-of p ++ u) same (more .0), more .1, more .2)
 
-pub passed-start : (file : List ℕ) → Passed file 0 []
-passed-start file = record { onward = refl; place = refl }
+-- an end and a stop have a number
+told-number : {file : List ℕ} {at n v : ℕ} {t : List ℕ} → Told file at t n v → 1 ≤ n
+told-number {file} {at} {n} {v} (stops x) = refuses-each (λ m. 1 ≤ m) (find-checks file at) n v (omega arith, (omega arith, (omega arith, omega arith))) x
+told-number (shows r c z k) = told-number k
 
-step : (l : List ℕ) (i j : ℕ) → j ≡ suc i → i < length l → drop i l ≡ getD l i 0 ∷ drop j l
-step l i j e h = rw e (drop-cons l i 0 h)
+pub lines-only : (file out : List ℕ) (r s : Answer) (a b : List ℕ) → Lines file out r a → Lines file out s b → (r ≡ s) × (a ≡ b)
+lines-only file out r s a b p q =
+    let same = told-one (p .told) (q .told) in (
+      says-only _ _ r s (λ n v m w x y. (
+        x .0 ∙ ap (λ k. cond (eqb k 255) 0 k) (same .1) ∙ sym (y .0),
+        x .1 ∙ ap₂ (λ k t. cond (eqb k 255) (length t) (p .value)) (same .1) (same .0) ∙ ap (λ u. cond (eqb (q .number) 255) (length (q .text)) u) (same .2) ∙ sym (y .1),
+      )) (p .answer) (q .answer),
+      p .bytes ∙ ap₂ (λ k t. cond (eqb k 255) (sets out 0 t) out) (same .1) (same .0) ∙ sym (q .bytes),
+    )
 
--- six bytes and the rest
-six : (l : List ℕ) (i : ℕ) → i + 6 ≤ length l
-    → drop i l ≡ getD l i 0 ∷ getD l (i + 1) 0 ∷ getD l (i + 2) 0 ∷ getD l (i + 2 + 1) 0 ∷ getD l (i + 4) 0 ∷ getD l (i + 4 + 1) 0 ∷ drop (i + 6) l
-six l i h =
-    step l i (i + 1) (omega arith) (omega arith)
-    ∙ ap (λ (t : List ℕ). getD l i 0 ∷ t) (step l (i + 1) (i + 2) (omega arith) (omega arith)
-    ∙ ap (λ (t : List ℕ). getD l (i + 1) 0 ∷ t) (step l (i + 2) (i + 2 + 1) (omega arith) (omega arith)
-    ∙ ap (λ (t : List ℕ). getD l (i + 2) 0 ∷ t) (step l (i + 2 + 1) (i + 4) (omega arith) (omega arith)
-    ∙ ap (λ (t : List ℕ). getD l (i + 2 + 1) 0 ∷ t) (step l (i + 4) (i + 4 + 1) (omega arith) (omega arith)
-    ∙ ap (λ (t : List ℕ). getD l (i + 4) 0 ∷ t) (step l (i + 4 + 1) (i + 6) (omega arith) (omega arith))))))
+-- ---- how long
+line-short : (r : Record) → first-of r < 65536 → second-of r < 65536 → length (line-of r) ≤ 15
+line-short (Job a b) h i = simp length-append (omega (arith, decimal-short 4 a (omega arith), decimal-short 4 b (omega arith)))
+line-short (Order a b) h i = simp length-append (omega (arith, decimal-short 4 a (omega arith), decimal-short 4 b (omega arith)))
+line-short (Deadline a b) h i = simp length-append (omega (arith, decimal-short 4 a (omega arith), decimal-short 4 b (omega arith)))
 
-few-left : (done : List Record) (l : List ℕ) → 0 < length l → length l < 6 → contents done l ≡ broken (6 * length done)
-unfolding contents
-few-left done [] p h = absurd (omega arith)
-few-left done (a ∷ []) p h = refl
-few-left done (a ∷ b ∷ []) p h = refl
-few-left done (a ∷ b ∷ c ∷ []) p h = refl
-few-left done (a ∷ b ∷ c ∷ d ∷ []) p h = refl
-few-left done (a ∷ b ∷ c ∷ d ∷ e ∷ []) p h = refl
-few-left done (a ∷ b ∷ c ∷ d ∷ e ∷ f ∷ l) p h = absurd (omega arith)
+-- ---- where the walk stands: at an offset, behind the lines `done`
+pub record Passed (file : List ℕ) (writing : Bool) (old : List ℕ) (at : ℕ) (to : ℕ) (new : List ℕ) : Type 0 where
+  pub done : List ℕ
+  pub onward : (rest : List ℕ) (n v : ℕ) → Told file at rest n v → Told file 0 (done ++ rest) n v
+  pub inside : at ≤ length file
+  pub short : 2 * length done ≤ 5 * at
+  pub within : length done ≤ 61440
+  pub place : to ≡ cond writing (length done) 0
+  pub bytes : new ≡ cond writing (sets old 0 done) old
 
--- one record more, or none
-abbrev told : List ℕ → ℕ → List Record → Bool → Contents
-told file at done sound = cond sound (contents (done ++ (record-at file at ∷ [])) (drop (at + 6) file)) (broken (6 * length done))
+pub passed-length : {file old new : List ℕ} {writing : Bool} {at to : ℕ} → Passed file writing old at to new → length new ≡ length old
+passed-length {file} {old} {new} {writing} p = stored-length writing (p .done) old new (p .bytes)
 
-module _ (file : List ℕ) (at : ℕ) (done : List Record) (w : Passed file at done) where
-  whole : at + 6 ≤ length file → contents [] file ≡ told file at done (ltb (length done) 4096 && known (number-at file at))
-  unfolding contents record-at
-  whole h = sym (w .onward) ∙ rw (six file at h)
-
-  pub rest-broken : at < length file → length file < at + 6 → contents [] file ≡ broken at
-  rest-broken p h = sym (w .onward) ∙ few-left done (drop at file) (simp length-drop (omega arith)) (simp length-drop (omega arith)) ∙ ap broken (sym (w .place))
-
-  pub many-broken : at + 6 ≤ length file → 4096 ≤ length done → contents [] file ≡ broken at
-  many-broken h m = whole h ∙ simp (le-ltb (length done) 4096 m) (ap broken (sym (w .place)))
-
-  pub mark-broken : at + 6 ≤ length file → length done < 4096 → known (number-at file at) ≡ false → contents [] file ≡ broken at
-  mark-broken h m k = whole h ∙ simp (lt-ltb (length done) 4096 m, k) (ap broken (sym (w .place)))
-
-  pub passed-next : at + 6 ≤ length file → length done < 4096 → known (number-at file at) ≡ true → Passed file (at + 6) (done ++ (record-at file at ∷ []))
-  passed-next h m k = record {
-    onward = sym (whole h ∙ simp (lt-ltb (length done) 4096 m, k));
-    place = simp length-append (omega (arith, w .place));
-  }
-
-  pub passed-end : length file ≤ at → contents [] file ≡ records done
-  unfolding contents
-  passed-end h = sym (w .onward) ∙ rw (drop-of-length-le file h)
-
-  -- in a file of whole records a record stands at each place before its end
-  pub passed-sound : (all : List Record) → contents [] file ≡ records all → at < length file → (at + 6 ≤ length file) × Passed file (at + 6) (done ++ (record-at file at ∷ []))
-  passed-sound all e p = fits (decLe (at + 6) (length file))
-    where
-      never : {b : ℕ} → contents [] file ≡ broken b → ⊥
-      never f = let z : _≡_ {A = ℕ} 0 1 = cc in omega arith
-
-      sound : (h : at + 6 ≤ length file) (t : Bool) → contents [] file ≡ told file at done t → contents [] file ≡ told file at done true
-      sound h true f = f
-      sound h false f = absurd (never f)
-
-      fits : Dec (at + 6 ≤ length file) → (at + 6 ≤ length file) × Passed file (at + 6) (done ++ (record-at file at ∷ []))
-      fits (yes h) = (
-        h,
-        record {
-          onward = sym (sound h (ltb (length done) 4096 && known (number-at file at)) (whole h));
-          place = simp length-append (omega (arith, w .place));
-        },
-      )
-      fits (no f) = absurd (never (rest-broken p (lt-of-not-le f)))
-
--- a file of whole records is six bytes for each, and has no more than 4,096
-measured : (l : List ℕ) (done all : List Record) → contents done l ≡ records all → length done ≤ 4096
-    → (length l + 6 * length done ≡ 6 * length all) × (length all ≤ 4096)
-unfolding contents
-measured [] done all e h = let same : done ≡ all = cc in rw (← same) (omega arith, h)
-measured (a ∷ []) done all e h = absurd (let z : _≡_ {A = ℕ} 0 1 = cc in omega arith)
-measured (a ∷ b ∷ []) done all e h = absurd (let z : _≡_ {A = ℕ} 0 1 = cc in omega arith)
-measured (a ∷ b ∷ c ∷ []) done all e h = absurd (let z : _≡_ {A = ℕ} 0 1 = cc in omega arith)
-measured (a ∷ b ∷ c ∷ d ∷ []) done all e h = absurd (let z : _≡_ {A = ℕ} 0 1 = cc in omega arith)
-measured (a ∷ b ∷ c ∷ d ∷ x ∷ []) done all e h = absurd (let z : _≡_ {A = ℕ} 0 1 = cc in omega arith)
-measured (a ∷ b ∷ c ∷ d ∷ x ∷ y ∷ l) done all e h = go (ltb (length done) 4096) (known (256 * a + b)) refl (measured l (done ++ (r ∷ [])) all) e
+pub passed-start : (file : List ℕ) (writing : Bool) (old : List ℕ) → Passed file writing old 0 0 old
+passed-start file writing old = record { done = []; onward = λ rest n v t. t; inside = omega arith; short = omega arith; within = omega arith; place = none writing; bytes = stored-none writing old }
   where
-    r : Record
-    r = record { mark = 256 * a + b; first = 256 * c + d; second = 256 * x + y }
+    none : (t : Bool) → _≡_ {A = ℕ} 0 (cond t 0 0)
+    none true = refl
+    none false = refl
 
-    go : (few mark : Bool) → ltb (length done) 4096 ≡ few
-        → (contents (done ++ (r ∷ [])) l ≡ records all → length (done ++ (r ∷ [])) ≤ 4096 → (length l + 6 * length (done ++ (r ∷ [])) ≡ 6 * length all) × (length all ≤ 4096))
-        → cond (few && mark) (contents (done ++ (r ∷ [])) l) (broken (6 * length done)) ≡ records all
-        → (suc (suc (suc (suc (suc (suc (length l)))))) + 6 * length done ≡ 6 * length all) × (length all ≤ 4096)
-    go true true q again f =
-        let n = length-append done (r ∷ []) in
-        let m = again f (omega (arith, n, ltb-true (length done) 4096 q)) in
-        (omega (arith, n, m .0), m .1)
-    go true false q again f = absurd (let z : _≡_ {A = ℕ} 0 1 = cc in omega arith)
-    go false mark q again f = absurd (let z : _≡_ {A = ℕ} 0 1 = cc in omega arith)
+module _ (file : List ℕ) (small : (i : ℕ) → getD file i 0 < 256) (old : List ℕ) (room : 61440 ≤ length old) (at to : ℕ) (new : List ℕ) where
+  -- a record more
+  goes : (writing : Bool) (p : Passed file writing old at to new) (r : Record) → Finds file at (found.Record r) → (rest : List ℕ) (n v : ℕ) → Told file (at + length-of r) rest n v → Told file 0 (p .done ++ line-of r ++ rest) n v
+  goes writing p r f rest n v t =
+      let x = finds-record file at r f in
+      subst (λ l. Told file 0 l n v) (sym (append-assoc (p .done) (line-of r) rest)) (p .onward (line-of r ++ rest) n v (shows r (stands-clear file at r (x .0) (x .1)) (x .1) t))
 
-pub file-measured : (file : List ℕ) (all : List Record) → contents [] file ≡ records all → (length file ≡ 6 * length all) × (length all ≤ 4096)
-file-measured file all e = let m = measured file [] all e (omega arith) in (omega (arith, m .0), m .1)
+  passed-unwritten : (r : Record) → Passed file false old at to new → Finds file at (found.Record r) → Passed file false old (at + length-of r) to new
+  passed-unwritten r p f =
+      let x = finds-record file at r f in
+      let l = stands-fields file at r small (x .1) in
+      record {
+        done = p .done ++ line-of r;
+        onward = goes false p r f;
+        inside = stands-within file at r (x .1);
+        short = simp length-append (omega (arith, p .short, length-six r, line-short r (l .0) (l .1)));
+        within = simp length-append (omega (arith, p .short, length-six r, line-short r (l .0) (l .1), x .0, stands-within file at r (x .1)));
+        place = p .place;
+        bytes = p .bytes;
+      }
 
--- what a survey told
-pub sound-file : (m : Contents) (n : ℕ) → surveyed m ≡ Records n → (all : List Record) × (m ≡ records all) × (length all ≡ n)
-unfolding surveyed
-sound-file (records all) n e = (all, refl, cc)
-sound-file (broken at) n e = absurd (let z : _≡_ {A = ℕ} 0 1 = cc in omega arith)
+  passed-written : (r : Record) (next : List ℕ) (to′ : ℕ) → Passed file true old at to new → Finds file at (found.Record r) → Puts (line-of r) to new next to′ → Passed file true old (at + length-of r) to′ next
+  passed-written r next to′ p f q =
+      let x = finds-record file at r f in
+      let l = stands-fields file at r small (x .1) in
+      let within = stands-within file at r (x .1) in
+      let line = line-short r (l .0) (l .1) in
+      let long : length new ≡ length old = passed-length p in
+      let put = puts-stored (line-of r) to new (omega (arith, p .place, p .short, length-six r, x .0)) q in
+      let zero : to ≡ 0 + length (p .done) = omega (arith, p .place) in
+      record {
+        done = p .done ++ line-of r;
+        onward = goes true p r f;
+        inside = within;
+        short = simp length-append (omega (arith, p .short, length-six r));
+        within = simp length-append (omega (arith, p .short, length-six r, x .0));
+        place = put .1 ∙ simp length-append (omega (arith, p .place));
+        bytes = put .0 ∙ ap₂ (λ b i. sets b i (line-of r)) (p .bytes) zero ∙ sets-append (p .done) (line-of r) old 0;
+      }
 
-pub broken-file : (m : Contents) (at : ℕ) → surveyed m ≡ Broken at → m ≡ broken at
-unfolding surveyed
-broken-file (records all) at e = absurd (let z : _≡_ {A = ℕ} 0 1 = cc in omega arith)
-broken-file (broken b) at e = cc
+  -- a record more, written or not
+  pub passed-more : (writing : Bool) (r : Record) (size : ℕ) (next : List ℕ) (to′ : ℕ) → Passed file writing old at to new → Finds file at (found.Record r) → size ≡ length-of r
+      → ((writing ≡ true) × Puts (line-of r) to new next to′) ⊎ ((writing ≡ false) × (next ≡ new) × (to′ ≡ to)) → Passed file writing old (at + size) to′ next
+  passed-more true r size next to′ p f e (inl x) = rw e (passed-written r next to′ p f (x .1))
+  passed-more true r size next to′ p f e (inr x) = absurd (let z : _≡_ {A = ℕ} 0 1 = cc (x .0) in omega arith)
+  passed-more false r size next to′ p f e (inl x) = absurd (let z : _≡_ {A = ℕ} 0 1 = cc (x .0) in omega arith)
+  passed-more false r size next to′ p f e (inr x) = rw (e, x .1, x .2) (passed-unwritten r p f)
 
--- no second outcome meets the promise of `lines`
-pub lines-only : (file out : List ℕ) (r s : Lined) (a b : List ℕ) → Lines file out r a → Lines file out s b → (r ≡ s) × (a ≡ b)
-lines-only file out r s a b p q = (p .answer ∙ sym (q .answer), p .bytes ∙ sym (q .bytes))
+-- what is found takes six bytes that the file has
+pub found-within : (file : List ℕ) (at size : ℕ) (r : Record) → Finds file at (found.Record r) → size ≡ length-of r → (size ≡ 6) × (at + size ≤ length file)
+found-within file at size r f e = (e ∙ length-six r, omega (arith, stands-within file at r (finds-record file at r f .1)))
+
+-- ---- what the walk tells at its end
+module _ (file old new : List ℕ) (writing : Bool) (at to : ℕ) (p : Passed file writing old at to new) where
+  told-here : (n v : ℕ) → Refuses (find-checks file at) n v → Told file 0 (p .done) n v
+  told-here n v x = subst (λ l. Told file 0 l n v) (append-nil (p .done)) (p .onward [] n v (stops x))
+
+  pub prints-end : Finds file at found.End → Prints file writing old (Accepted to) new
+  prints-end f =
+      let s = finds-stop file at found.End (λ x. x) f in
+      record {
+        text = p .done;
+        number = 255;
+        value = 0;
+        told = subst (λ m. Told file 0 (p .done) m 0) (sym (s .3 .0)) (subst (Told file 0 (p .done) (s .0)) (sym (s .3 .1)) (told-here (s .0) (s .1) (s .2)));
+        within = p .within;
+        answer = (refl, p .place);
+        bytes = p .bytes;
+      }
+
+  pub prints-stop : (n v : ℕ) → Finds file at (found.Stopped n v) → Prints file writing old (Refused n v) new
+  prints-stop n v f =
+      let s = finds-stop file at (found.Stopped n v) (λ x. x .1) f in
+      let here : Told file 0 (p .done) n v = subst (λ m. Told file 0 (p .done) m v) (sym (s .3 .1 .0)) (subst (Told file 0 (p .done) (s .0)) (sym (s .3 .1 .1)) (told-here (s .0) (s .1) (s .2))) in
+      record {
+        text = p .done;
+        number = n;
+        value = v;
+        told = here;
+        within = p .within;
+        answer = (told-number here, (simp (ne-eqb n 255 (s .3 .0)), simp (ne-eqb n 255 (s .3 .0))));
+        bytes = p .bytes;
+      }
+
+-- ---- from the two walks
+module _ (file old mid new : List ℕ) (room : 61440 ≤ length old) where
+  pub lines-stop : (n v : ℕ) → Prints file false old (Refused n v) new → Lines file old (Refused n v) new
+  lines-stop n v p = go (eqb (p .number) 255) refl (p .answer .1 .0) (p .answer .1 .1)
+    where
+      go : (t : Bool) → eqb (p .number) 255 ≡ t → n ≡ cond t 0 (p .number) → v ≡ cond t 0 (p .value) → Lines file old (Refused n v) new
+      go true e f g = absurd (omega (arith, f, p .answer .0))
+      go false e f g = record { text = p .text; number = p .number; value = p .value; told = p .told; within = omega (arith, p .within); answer = (p .answer .0, (simp e f, simp e g)); bytes = simp e (p .bytes) }
+
+  pub lines-end : (n : ℕ) (r : Answer) → Prints file false old (Accepted n) mid → Prints file true mid r new → Lines file old r new
+  lines-end n r p q = go (eqb (p .number) 255) refl (p .answer .0)
+    where
+      go : (t : Bool) → eqb (p .number) 255 ≡ t → 0 ≡ cond t 0 (p .number) → Lines file old r new
+      go true e f =
+          let same = told-one (p .told) (q .told) in
+          let whole : eqb (q .number) 255 ≡ true = rw (← same .1) e in
+          record { text = q .text; number = q .number; value = q .value; told = q .told; within = omega (arith, q .within); answer = q .answer; bytes = simp whole (q .bytes ∙ ap (λ l. sets l 0 (q .text)) (p .bytes)) }
+      go false e f = absurd (omega (arith, f, told-number (p .told)))
 
 -- what is written lies within the bytes lent
-pub lines-within : (file out : List ℕ) (n : ℕ) (after : List ℕ) → Lines file out (Written n) after → n ≤ length out
-unfolding lined
-lines-within file out n after k = go (contents [] file) (k .answer)
+pub lines-within : (file out : List ℕ) (n : ℕ) (after : List ℕ) → Lines file out (Accepted n) after → n ≤ length after
+lines-within file out n after p = go (eqb (p .number) 255) (p .answer .0) (p .answer .1) (p .bytes)
   where
-    go : (m : Contents) → Written n ≡ lined m out → n ≤ length out
-    go (records rs) e = fits (leb (15 * length rs) (length out)) refl e
-      where
-        fits : (t : Bool) → leb (15 * length rs) (length out) ≡ t → Written n ≡ cond t (Written (15 * length rs)) (Short (15 * length rs)) → n ≤ length out
-        fits true q e = let same : n ≡ 15 * length rs = cc in omega (arith, leb-true (15 * length rs) (length out) q)
-        fits false q e = absurd (let z : _≡_ {A = ℕ} 0 1 = cc in omega arith)
-    go (broken at) e = absurd (let z : _≡_ {A = ℕ} 0 1 = cc in omega arith)
+    go : (t : Bool) → 0 ≡ cond t 0 (p .number) → n ≡ cond t (length (p .text)) (p .value) → after ≡ cond t (sets out 0 (p .text)) out → n ≤ length after
+    go true e f g = omega (arith, f, p .within, ap length g, length-sets out 0 (p .text))
+    go false e f g = absurd (omega (arith, e, told-number (p .told)))

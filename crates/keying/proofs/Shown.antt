@@ -1,30 +1,35 @@
--- What the reader in the code shows of a page: counts in place of lists of words.
+-- What the reader in the code shows of a page: a word counted in place of kept.
 -- Assumes nothing.
 use mathlib.Core.Bool.{Bool, true, false, cond, _&&_}
 use mathlib.Core.List.{List, [], _∷_, _++_}
 use mathlib.Core.Logic.{_⊎_, inl, inr}
-use mathlib.Core.Path.{_≡_, refl, ap, _∙_}
+use mathlib.Core.Path.{_≡_, refl, ap, ap₂, _∙_}
 use Prim.Native.Nat.{ℕ, _+_, _-_, _*_, _≤_, _<_}
 use native.Mathlib.Omega.{arith}
 use native.Mathlib.Decide.{decLe}
 use native.Mathlib.Nat.{lt-of-not-le}
-use lib.Dec.{eqb, leb}
-use borrow.Author.Tests.{le-leb, lt-leb}
-use Rattle.keying.specs.Text.{digit, digits, counted, decimal, mark, known, blank, field, fields, judge, Page, ended, fresh, says, turn}
-use Rattle.keying.specs.Inner.Machine.{number-with, word-with, word-mark, entry-with, numbered, fields-say, entry-says, no-word, no-entry, blank-reader, reader-says, reader-after}
+use lib.Dec.{eqb, leb, ltb}
+use lib.ListN.{length, getD, length-append}
+use borrow.Author.Tests.{le-leb, lt-leb, ne-eqb}
+use Rattle.records.specs.Find.{record-named}
+use Rattle.keying.specs.Text.{inner, digit, digits, counted, mark, grown-by, field, or-else, first-word, worded, Page, Turn, on, tells, wrong, fresh, grown, finished, ended, turn}
+use Rattle.keying.specs.Inner.Machine.{number-with, word-with, word-mark, numbered, no-mark, first-by, entry-with, no-word, blank-reader, reader-grown, reader-finished, reader-ended, reader-taken, reader-step}
 use Rattle.keying.specs.declared.word.Word.{Word}
 use Rattle.keying.specs.declared.entry.Entry.{Entry}
-use Rattle.keying.specs.declared.entry.Said.{Said}
-use Rattle.keying.specs.declared.entry.Said.the-variants.{Told, Wrong}
-use Rattle.keying.specs.declared.entry.Slip.the-variants.{UnknownWord, MissingField, ExtraField, NotNumber, TooLarge}
+use Rattle.keying.specs.declared.entry.Slip.the-variants.{UnknownWord, MissingField, ExtraField, NotNumber, TooLarge, CommaNumber}
+use Rattle.keying.specs.declared.entry.Taken.{Taken}
+use Rattle.keying.specs.declared.entry.Taken.the-variants.{Grown, Wrong}
 use Rattle.keying.specs.declared.reader.Reader.{Reader}
+use Rattle.keying.specs.declared.reader.Step.{Step}
+use Rattle.keying.specs.declared.reader.Step.the-variants as step
 
--- a word's number: 65,536 for one that is too large, 65,537 for none
-abbrev capped : Bool → ℕ → ℕ
+-- ---- a word
+-- its number: 65,536 for one that is too large, 65,537 for none
+abbrev pub capped : Bool → ℕ → ℕ
 capped all n = cond all (cond (leb n 65535) n 65536) 65537
 
-unfoldable tally : List ℕ → ℕ
-tally w = capped (digits w) (decimal w)
+unfoldable pub tally : List ℕ → ℕ
+tally w = capped (digits w) (counted 0 w)
 
 fits : (n : ℕ) → (n ≤ 65535) ⊎ (65535 < n)
 fits n = go (decLe n 65535)
@@ -33,18 +38,18 @@ fits n = go (decLe n 65535)
     go (yes h) = inl h
     go (no f) = inr (lt-of-not-le f)
 
+and-true : (t : Bool) → t && true ≡ t
+and-true true = refl
+and-true false = refl
+
+and-assoc : (a b c : Bool) → a && (b && c) ≡ a && b && c
+and-assoc true b c = refl
+and-assoc false b c = refl
+
 digits-with : (w : List ℕ) (b : ℕ) → digits (w ++ (b ∷ [])) ≡ digits w && digit b
 unfolding digits
-digits-with [] b = go (digit b)
-  where
-    go : (t : Bool) → t && true ≡ t
-    go true = refl
-    go false = refl
-digits-with (x ∷ w) b = rw (digits-with w b) (go (digit x))
-  where
-    go : (t : Bool) → t && (digits w && digit b) ≡ t && digits w && digit b
-    go true = refl
-    go false = refl
+digits-with [] b = and-true (digit b)
+digits-with (x ∷ w) b = rw (digits-with w b) (and-assoc (digit x) (digits w) (digit b))
 
 counted-with : (n : ℕ) (w : List ℕ) (b : ℕ) → counted n (w ++ (b ∷ [])) ≡ 10 * counted n w + (b - 48)
 unfolding counted
@@ -64,121 +69,124 @@ number-shown w b = rw (digits-with w b, counted-with 0 w b) (go (digits w) (digi
     go true true n k (inl h) = simp (le-leb n 65535 h)
     go true true n k (inr h) = simp (lt-leb n 65535 h, lt-leb (10 * n + k) 65535 (omega arith))
 
--- a word, up to its third byte
-unfoldable seen : List ℕ → Word
-seen [] = no-word
-seen (a ∷ []) = record { size = 1; high = a; low = 0; number = tally (a ∷ []) }
-seen (a ∷ b ∷ []) = record { size = 2; high = a; low = b; number = tally (a ∷ b ∷ []) }
-seen (a ∷ b ∷ c ∷ w) = record { size = 3; high = a; low = b; number = tally (a ∷ b ∷ c ∷ w) }
+-- digits alone, by the number
+digits-shown : (w : List ℕ) → leb (tally w) 65536 ≡ digits w
+unfolding tally
+digits-shown w = go (digits w) (counted 0 w) (fits (counted 0 w))
+  where
+    go : (all : Bool) (n : ℕ) → (n ≤ 65535) ⊎ (65535 < n) → leb (capped all n) 65536 ≡ all
+    go false n h = refl
+    go true n (inl h) = simp (le-leb n 65535 h, le-leb n 65536 (omega arith))
+    go true n (inr h) = simp (lt-leb n 65535 h)
 
-no-tally : tally [] ≡ 0
-unfolding tally digits counted
-no-tally = refl
+unfoldable pub seen : List ℕ → Word
+seen w = record { size = length w; high = getD w 0 0; low = getD w 1 0; number = tally w }
+
+no-seen : no-word ≡ seen []
+unfolding seen tally digits counted
+no-seen = refl
 
 word-shown : (w : List ℕ) (b : ℕ) → word-with (seen w) b ≡ seen (w ++ (b ∷ []))
 unfolding word-with seen
-word-shown [] x = rw (← number-shown [] x, no-tally)
+word-shown [] x = rw (number-shown [] x)
 word-shown (a ∷ []) x = rw (number-shown (a ∷ []) x)
-word-shown (a ∷ b ∷ []) x = rw (number-shown (a ∷ b ∷ []) x)
-word-shown (a ∷ b ∷ c ∷ w) x = rw (number-shown (a ∷ b ∷ c ∷ w) x)
+word-shown (a ∷ b ∷ w) x =
+    let n = length (a ∷ b ∷ w) in
+    let long : length (a ∷ b ∷ (w ++ (x ∷ []))) ≡ n + 1 = simp length-append (omega arith) in
+    simp (ne-eqb n 0 (λ e. omega arith), ne-eqb n 1 (λ e. omega arith), number-shown (a ∷ b ∷ w) x, long)
 
 mark-shown : (w : List ℕ) → word-mark (seen w) ≡ mark w
 unfolding word-mark seen mark
 mark-shown [] = refl
 mark-shown (a ∷ []) = refl
 mark-shown (a ∷ b ∷ []) = refl
-mark-shown (a ∷ b ∷ c ∷ w) = refl
+mark-shown (a ∷ b ∷ c ∷ w) = simp (ne-eqb (length (a ∷ b ∷ c ∷ w)) 2 (λ e. omega arith))
 
-begun : (b : ℕ) (w : List ℕ) → eqb (seen (b ∷ w) .size) 0 ≡ false
-unfolding seen
-begun a [] = refl
-begun a (b ∷ []) = refl
-begun a (b ∷ c ∷ w) = refl
-
-seen-number : (w : List ℕ) → seen w .number ≡ tally w
-unfolding seen tally digits counted
-seen-number [] = refl
-seen-number (a ∷ []) = refl
-seen-number (a ∷ b ∷ []) = refl
-seen-number (a ∷ b ∷ c ∷ w) = refl
-
--- an entry, up to its fourth word
-unfoldable summed : List (List ℕ) → Entry
-summed [] = no-entry
-summed (m ∷ []) = record { filled = 1; mark = mark m; first = 0; second = 0 }
-summed (m ∷ a ∷ []) = record { filled = 2; mark = mark m; first = tally a; second = 0 }
-summed (m ∷ a ∷ b ∷ []) = record { filled = 3; mark = mark m; first = tally a; second = tally b }
-summed (m ∷ a ∷ b ∷ c ∷ words) = record { filled = 4; mark = mark m; first = tally a; second = tally b }
-
-entry-shown : (words : List (List ℕ)) (w : List ℕ) → entry-with (summed words) (seen w) ≡ summed (ended words w)
-unfolding entry-with ended summed
-entry-shown words [] = unfold seen in refl
-entry-shown [] (x ∷ w) = simp (begun x w, mark-shown)
-entry-shown (m ∷ []) (x ∷ w) = simp (begun x w, seen-number)
-entry-shown (m ∷ a ∷ []) (x ∷ w) = simp (begun x w, seen-number)
-entry-shown (m ∷ a ∷ b ∷ []) (x ∷ w) = simp (begun x w)
-entry-shown (m ∷ a ∷ b ∷ c ∷ words) (x ∷ w) = simp (begun x w)
-
--- a field that is a number is its tally
-field-shown : (w : List ℕ) (next : ℕ → Said) → numbered (tally w) (next (tally w)) ≡ field w (next (decimal w))
+-- ---- an entry
+field-shown : (e : Entry) (w : List ℕ) → numbered e (tally w) ≡ field e w
 unfolding numbered tally field
-field-shown w next = go (digits w) (decimal w) (fits (decimal w))
+field-shown e w = go (digits w) (counted 0 w) (fits (counted 0 w))
   where
     go : (all : Bool) (n : ℕ) → (n ≤ 65535) ⊎ (65535 < n)
-        → cond (leb (capped all n) 65536) (cond (leb (capped all n) 65535) (next (capped all n)) (Wrong TooLarge)) (Wrong NotNumber)
-        ≡ cond all (cond (leb n 65535) (next n) (Wrong TooLarge)) (Wrong NotNumber)
+        → cond (leb (capped all n) 65536) (cond (leb (capped all n) 65535) (Grown (grown-by e (capped all n))) (Wrong TooLarge)) (Wrong NotNumber)
+        ≡ cond all (cond (leb n 65535) (Grown (grown-by e n)) (Wrong TooLarge)) (Wrong NotNumber)
     go false n h = refl
     go true n (inl h) = simp (le-leb n 65535 h, le-leb n 65536 (omega arith))
     go true n (inr h) = simp (lt-leb n 65535 h)
 
-judge-shown : (words : List (List ℕ)) → entry-says (summed words) ≡ judge words
-unfolding entry-says fields-say summed judge fields
-judge-shown [] = refl
-judge-shown (m ∷ []) = refl
-judge-shown (m ∷ a ∷ []) = rw (field-shown a (λ x. Wrong MissingField))
-judge-shown (m ∷ a ∷ b ∷ []) =
-    ap (λ (s : Said). cond (known (mark m)) s (Wrong UnknownWord))
-    (field-shown a (λ x. numbered (tally b) (Told (record { mark = mark m; first = x; second = tally b })))
-    ∙ ap (field a) (field-shown b (λ y. Told (record { mark = mark m; first = decimal a; second = y }))))
-judge-shown (m ∷ a ∷ b ∷ c ∷ words) = rw (field-shown a (λ x. numbered (tally b) (Wrong ExtraField)), field-shown b (λ y. Wrong ExtraField))
+first-shown : (place : ℕ) (w : List ℕ) → first-by place (seen w) ≡ first-word place w
+unfolding first-by no-mark first-word
+first-shown place w =
+    ap₂ (λ m n. or-else (record-named m 0 0 0) (Wrong (cond (ltb 1 place && n) CommaNumber UnknownWord))) (mark-shown w) (unfold seen in digits-shown w)
 
--- a page
-pub shown : Page → Reader
-shown p = record { line = p .line; remark = p .remark; entry = summed (p .words); word = seen (p .word) }
+entry-shown : (e : Entry) (place : ℕ) (w : List ℕ) → entry-with e place (seen w) ≡ worded place e w
+unfolding entry-with worded
+entry-shown e place [] = unfold seen in refl
+entry-shown e place (b ∷ w) =
+    let begun : eqb (seen (b ∷ w) .size) 0 ≡ false = unfold seen in ne-eqb (length (b ∷ w)) 0 (λ e. omega arith) in
+    rw begun (ap₂ (λ x y. cond (eqb (e .filled) 0) x (cond (eqb (e .filled) 3) (Wrong ExtraField) y)) (first-shown place (b ∷ w)) (unfold seen in field-shown e (b ∷ w)))
 
-pub line-shown : (p : Page) → shown p .line ≡ p .line
-unfolding shown
-line-shown p = refl
+-- ---- a page
+unfoldable pub shown : Page → Reader
+shown p = record { line = p .line; entry = p .entry; remark = p .remark; told = p .told; word = seen (p .word) }
 
-pub fresh-shown : (n : ℕ) → blank-reader n ≡ shown (fresh n)
-unfolding blank-reader shown fresh summed seen
-fresh-shown n = refl
+abbrev pub shown-turn : Turn → Step
+shown-turn (on p) = step.On (shown p)
+shown-turn (tells p r) = step.Told (shown p) r
+shown-turn (wrong slip size) = step.Wrong slip size
 
-pub says-shown : (p : Page) (b : ℕ) → reader-says (shown p) b ≡ says p b
-unfolding reader-says shown says
-says-shown p b = simp (entry-shown, judge-shown)
+pub fresh-shown : (line entry : ℕ) → blank-reader line entry ≡ shown (fresh line entry)
+unfolding blank-reader shown fresh
+fresh-shown line entry = rw no-seen
 
-pub turn-shown : (p : Page) (b : ℕ) → reader-after (shown p) b ≡ shown (turn p b)
-unfolding reader-after turn shown
-turn-shown p b = go (eqb b 10) (p .remark) (eqb b 44) (eqb b 35) (blank b)
+grown-shown : (p : Page) (b : ℕ) → reader-grown (shown p) b ≡ shown (grown p b)
+unfolding reader-grown shown grown
+grown-shown p b = go (p .remark)
   where
-    go : (line remark comma hash gap : Bool)
-        → cond line (blank-reader (p .line + 1))
-        (cond remark (shown p)
-        (cond comma (blank-reader (p .line))
-        (cond hash (record { line = p .line; remark = true; entry = summed (p .words); word = seen (p .word) })
-        (cond gap (record { line = p .line; remark = false; entry = entry-with (summed (p .words)) (seen (p .word)); word = no-word })
-        (record { line = p .line; remark = false; entry = summed (p .words); word = word-with (seen (p .word)) b })))))
-        ≡ shown
-        (cond line (fresh (p .line + 1))
-        (cond remark p
-        (cond comma (fresh (p .line))
-        (cond hash (record { line = p .line; remark = true; words = p .words; word = p .word })
-        (cond gap (record { line = p .line; remark = false; words = ended (p .words) (p .word); word = [] })
-        (record { line = p .line; remark = false; words = p .words; word = p .word ++ (b ∷ []) }))))))
-    go true r c h g = fresh-shown (p .line + 1)
-    go false true c h g = refl
-    go false false true h g = fresh-shown (p .line)
-    go false false false true g = refl
-    go false false false false true = rw (entry-shown (p .words) (p .word)) (unfold seen in refl)
-    go false false false false false = rw (word-shown (p .word) b)
+    go : (t : Bool) → cond t (shown p) (record { line = p .line; entry = p .entry; remark = false; told = p .told; word = word-with (seen (p .word)) b })
+        ≡ shown (cond t p (record { line = p .line; entry = p .entry; remark = false; told = p .told; word = p .word ++ (b ∷ []) }))
+    go true = refl
+    go false = rw (word-shown (p .word) b)
+
+finished-shown : (e : Entry) (p : Page) → reader-finished e (shown p) ≡ shown-turn (finished e p)
+unfolding reader-finished finished
+finished-shown e p = go (eqb (e .filled) 0) (eqb (e .filled) 3)
+  where
+    go : (none whole : Bool) → cond none (step.On (shown p)) (cond whole (step.Told (shown p) (e .told)) (step.Wrong MissingField 0))
+        ≡ shown-turn (cond none (on p) (cond whole (tells p (e .told)) (wrong MissingField 0)))
+    go true whole = refl
+    go false true = refl
+    go false false = refl
+
+ended-shown : (p : Page) (b : ℕ) (t : Taken) → reader-taken (shown p) b t ≡ shown-turn (ended p b t)
+unfolding reader-ended ended shown
+ended-shown p b (Wrong slip) = unfold seen in refl
+ended-shown p b (Grown e) = go (eqb b 10) (eqb b 44)
+  where
+    gap : Page
+    gap = record { line = p .line; entry = p .entry; remark = eqb b 35; told = e; word = [] }
+
+    go : (line comma : Bool)
+        → cond line (reader-finished e (blank-reader (p .line + 1) 1))
+        (cond comma (reader-finished e (blank-reader (p .line) (p .entry + 1)))
+        (step.On (record { line = p .line; entry = p .entry; remark = eqb b 35; told = e; word = no-word })))
+        ≡ shown-turn (cond line (finished e (fresh (p .line + 1) 1)) (cond comma (finished e (fresh (p .line) (p .entry + 1))) (on gap)))
+    go true comma = rw (fresh-shown (p .line + 1) 1) (finished-shown e (fresh (p .line + 1) 1))
+    go false true = rw (fresh-shown (p .line) (p .entry + 1)) (finished-shown e (fresh (p .line) (p .entry + 1)))
+    go false false = rw no-seen
+
+pub turn-shown : (p : Page) (b : ℕ) → reader-step (shown p) b ≡ shown-turn (turn p b)
+unfolding reader-step turn shown
+turn-shown p b =
+    ap₂ (λ x y. cond (inner (p .remark) b) (step.On x) y) (grown-shown p b)
+    (ap (reader-taken (shown p) b) (entry-shown (p .told) (p .entry) (p .word)) ∙ ended-shown p b (worded (p .entry) (p .told) (p .word)))
+    ∙ go (inner (p .remark) b) (grown p b) (ended p b (worded (p .entry) (p .told) (p .word)))
+  where
+    go : (t : Bool) (q : Page) (u : Turn) → cond t (step.On (shown q)) (shown-turn u) ≡ shown-turn (cond t (on q) u)
+    go true q u = refl
+    go false q u = refl
+
+-- what a page shows of its counts
+pub shown-counts : (p : Page) → (shown p .line ≡ p .line) × (shown p .entry ≡ p .entry) × (shown p .word .size ≡ length (p .word))
+unfolding shown seen
+shown-counts p = (refl, refl, refl)

@@ -2,43 +2,91 @@
 -- Assumes nothing.
 use mathlib.Core.Bool.{Bool, true, false, cond}
 use mathlib.Core.List.{List, [], _∷_, _++_}
-use mathlib.Core.Path.{_≡_, refl, sym, ap, _∙_}
-use Prim.Native.Nat.{ℕ, suc, _+_, _≤_, _<_}
+use mathlib.Core.Path.{_≡_, refl, sym, ap, subst, _∙_}
+use Prim.Native.Nat.{ℕ, suc, _+_, _-_, _^_, _≤_, _<_}
 use native.Mathlib.Numerals.{add-one}
 use native.Mathlib.Omega.{arith}
 use native.Mathlib.Decide.{decLe}
-use native.Mathlib.Nat.{lt-of-not-le, le-trans}
-use lib.Dec.{eqb, ltb}
-use lib.ListN.{length, getD, take, drop, length-append, List·getD-append, List·getD-eq-default}
-use lib.Seq.{drop-cons, drop-length, getD-append-seam}
-use borrow.Author.Tests.{lt-ltb, le-ltb, ltb-true, le-leb, lt-leb}
-use Rattle.keying.specs.Text.{Page, Meaning, records, mistake, fresh, says, turn, heard, read, reading, last-line, meaning, blank}
-use Rattle.keying.specs.Inner.Machine.{blank-reader, reader-says, reader-after}
-use Rattle.keying.specs.declared.entry.Record.{Record}
+use native.Mathlib.Nat.{lt-of-not-le}
+use lib.Dec.{eqb, leb}
+use lib.ListN.{length, getD, drop, length-append, List·getD-append, List·getD-eq-default}
+use lib.Seq.{sets, length-sets, drop-cons, drop-length, getD-append-seam}
+use borrow.Author.Tests.{le-leb, lt-leb, leb-true}
+use Rattle.records.specs.Record.{bytes-of, length-of}
+use Rattle.records.proofs.Standing.{bytes-length}
+use Rattle.records.proofs.Stored.{sets-append}
+use Rattle.keying.specs.Slip.{slip-number}
+use Rattle.keying.specs.Text.{inner, worded, Page, Turn, on, tells, wrong, fresh, grown, finished, ended, turn, Ending, complete, mistake, Meaning, stopped, heard, read, begin, meaning}
+use Rattle.keying.specs.Keys.{Answers}
+use Rattle.keying.specs.Inner.Walk.{Walks}
+use Rattle.keying.specs.Inner.Machine.{Counts, blank-reader, reader-step}
+use Rattle.keying.specs.declared.entry.Entry.{Entry}
+use Rattle.keying.specs.declared.entry.Taken.{Taken}
+use Rattle.keying.specs.declared.entry.Taken.the-variants.{Grown, Wrong}
 use Rattle.keying.specs.declared.entry.Slip.{Slip}
-use Rattle.keying.specs.declared.entry.Slip.the-variants.{TooMany, TooLong}
-use Rattle.keying.specs.declared.entry.Said.{Said}
-use Rattle.keying.specs.declared.entry.Said.the-variants.{Nothing, Told, Wrong}
+use Rattle.keying.specs.declared.entry.Slip.the-variants.{TooMany}
+use Rattle.keying.specs.declared.keyed.Keyed.{Keyed}
 use Rattle.keying.specs.declared.reader.Reader.{Reader}
-use Rattle.keying.specs.Inner.Walk.{checked}
-use Rattle.keying.specs.declared.keyed.Checked.the-variants.{Sound}
-use Rattle.keying.specs.declared.keyed.Checked.the-variants as Checked'
-use Rattle.keying.proofs.Shown.{shown, line-shown, fresh-shown, says-shown, turn-shown}
+use Rattle.keying.specs.declared.reader.Step.{Step}
+use Rattle.keying.specs.declared.reader.Step.the-variants as step
+use Rattle.keying.proofs.Shown.{shown, shown-turn, fresh-shown, turn-shown, shown-counts}
 
 -- the text with the newline that ends its last line
 abbrev lined : List ℕ → List ℕ
 lined text = text ++ (10 ∷ [])
 
--- the walk stands before byte i, and has found the records `done`
-pub record Reached (text : List ℕ) (reader : Reader) (i : ℕ) (done : List Record) : Type 0 where
+-- ---- counts stay small
+abbrev Small : ℕ → Page → Type 0
+Small i p = (p .line ≤ i + 1) × (p .entry ≤ i + 1) × (length (p .word) ≤ i)
+
+abbrev After : ℕ → Turn → Type 0
+After i (on q) = Small (i + 1) q
+After i (tells q r) = Small (i + 1) q
+After i (wrong slip size) = size ≤ i
+
+either : (i : ℕ) (t : Bool) (x y : Turn) → After i x → After i y → After i (cond t x y)
+either i true x y a b = a
+either i false x y a b = b
+
+small-grown : (i : ℕ) (p : Page) (b : ℕ) → Small i p → Small (i + 1) (grown p b)
+unfolding grown
+small-grown i p b h = go (p .remark)
+  where
+    go : (t : Bool) → Small (i + 1) (cond t p (record { line = p .line; entry = p .entry; remark = false; told = p .told; word = p .word ++ (b ∷ []) }))
+    go true = (omega (arith, h .0), omega (arith, h .1), omega (arith, h .2))
+    go false = (omega (arith, h .0), omega (arith, h .1), simp length-append (omega (arith, h .2)))
+
+small-finished : (i : ℕ) (e : Entry) (q : Page) → Small (i + 1) q → After i (finished e q)
+unfolding finished
+small-finished i e q h = either i (eqb (e .filled) 0) _ _ h (either i (eqb (e .filled) 3) _ _ h (omega arith))
+
+small-ended : (i : ℕ) (p : Page) (b : ℕ) (t : Taken) → Small i p → After i (ended p b t)
+unfolding ended fresh
+small-ended i p b (Wrong slip) h = h .2
+small-ended i p b (Grown e) h =
+    either i (eqb b 10) _ _ (small-finished i e _ (omega (arith, h .0), omega arith, omega arith))
+    (either i (eqb b 44) _ _ (small-finished i e _ (omega (arith, h .0), omega (arith, h .1), omega arith)) (omega (arith, h .0), omega (arith, h .1), omega arith))
+
+small-turn : (i : ℕ) (p : Page) (b : ℕ) → Small i p → After i (turn p b)
+unfolding turn
+small-turn i p b h = either i (inner (p .remark) b) _ _ (small-grown i p b h) (small-ended i p b (worded (p .entry) (p .told) (p .word)) h)
+
+-- ---- where the walk stands
+-- before byte i, with the bytes `done` found
+pub record Reached (text : List ℕ) (reader : Reader) (i : ℕ) (done : List ℕ) : Type 0 where
   pub page : Page
   pub shows : reader ≡ shown page
-  pub onward : read done page (drop i (text ++ (10 ∷ []))) ≡ reading text
-  pub line : reader .line ≤ i + 1
+  pub onward : read done page i (drop i (text ++ (10 ∷ []))) ≡ meaning text
+  pub small : (page .line ≤ i + 1) × (page .entry ≤ i + 1) × (length (page .word) ≤ i)
 
-pub reached-start : (text : List ℕ) → Reached text (blank-reader 1) 0 []
-unfolding reading blank-reader
-reached-start text = record { page = fresh 1; shows = fresh-shown 1; onward = refl; line = omega arith }
+pub reached-start : (text : List ℕ) → Reached text (blank-reader 1 1) (begin text) []
+unfolding meaning fresh
+reached-start text = record { page = fresh 1 1; shows = fresh-shown 1 1; onward = refl; small = (omega arith, omega arith, omega arith) }
+
+pub reached-counts : {text done : List ℕ} {reader : Reader} {i : ℕ} → Reached text reader i done → i + 2 < 2 ^ 64 → Counts reader
+reached-counts w h =
+    let n = shown-counts (w .page) in
+    rw (w .shows) (record { line = omega (arith, n .0, w .small .0); entry = omega (arith, n .1, w .small .1); size = omega (arith, n .2, w .small .2) })
 
 -- the byte at i, and the rest
 cut : (text : List ℕ) (i : ℕ) → i ≤ length text → drop i (lined text) ≡ getD text i 10 ∷ drop (i + 1) (lined text)
@@ -50,152 +98,87 @@ cut text i h = rw (add-one i) (drop-cons (lined text) i 10 (simp length-append (
         let e : i ≡ length text = omega (arith, lt-of-not-le f) in
         rw e (getD-append-seam text 10 [] 10 ∙ sym (List·getD-eq-default text 10 (omega arith)))
 
-either : (n : ℕ) (t : Bool) (x y : Reader) → x .line ≤ n → y .line ≤ n → cond t x y .line ≤ n
-either n true x y p q = p
-either n false x y p q = q
+-- ---- what a byte does
+module _ (text : List ℕ) (reader : Reader) (i : ℕ) (done : List ℕ) where
+  -- a mistake on this line, in this entry
+  abbrev Stops : Slip → ℕ → ℕ → Type 0
+  Stops slip start size = meaning text ≡ record { file = done; ending = mistake (reader .line) (reader .entry) (slip-number slip) start size }
 
-line-after : (r : Reader) (b : ℕ) → reader-after r b .line ≤ r .line + 1
-unfolding reader-after blank-reader
-line-after r b =
-    let n = r .line + 1 in
-    let same : r .line ≤ r .line + 1 = omega arith in
-    let next : r .line + 1 ≤ r .line + 1 = omega arith in
-    either n (eqb b 10) _ _ next (either n (r .remark) _ _ same (either n (eqb b 44) _ _ same (either n (eqb b 35) _ _ same (either n (blank b) _ _ same same))))
+  -- what follows from a step
+  abbrev pub Follows : Step → Type 0
+  Follows (step.On next) = Reached text next (i + 1) done
+  Follows (step.Told next r) =
+      (length done + length-of r ≤ 24576 → Reached text next (i + 1) (done ++ bytes-of r)) × (24576 < length done + length-of r → Stops TooMany (i - 0) 0)
+  Follows (step.Wrong slip size) = (size ≤ i) × Stops slip (i - size) size
 
--- the byte at i
-abbrev byte : List ℕ → ℕ → ℕ
-byte text i = getD text i 10
+  pub follows : Reached text reader i done → i ≤ length text → (s : Step) → reader-step reader (getD text i 10) ≡ s → Follows s
+  unfolding read heard stopped
+  follows w h s e =
+      let b = getD text i 10 in
+      let o : read done (w .page) i (b ∷ drop (i + 1) (lined text)) ≡ meaning text = rw (cut text i h) at (w .onward) in
+      subst Follows (sym (turn-shown (w .page) b) ∙ ap (λ r. reader-step r b) (sym (w .shows)) ∙ e) (by-turn (turn (w .page) b) o (small-turn i (w .page) b (w .small)))
+    where
+      same-line : reader .line ≡ w .page .line
+      same-line = ap (λ r. r .line) (w .shows) ∙ shown-counts (w .page) .0
 
--- the records with what was said
-abbrev pub kept : List Record → Said → List Record
-kept done Nothing = done
-kept done (Told t) = done ++ (t ∷ [])
-kept done (Wrong slip) = done
+      same-entry : reader .entry ≡ w .page .entry
+      same-entry = ap (λ r. r .entry) (w .shows) ∙ shown-counts (w .page) .1
 
-kept-grows : (done : List Record) (said : Said) → length done ≤ length (kept done said)
-kept-grows done Nothing = omega arith
-kept-grows done (Told t) = simp length-append (omega arith)
-kept-grows done (Wrong slip) = omega arith
+      by-turn : (t : Turn) → heard done (w .page) i t (λ more q. read more q (i + 1) (drop (i + 1) (lined text))) ≡ meaning text → After i t → Follows (shown-turn t)
+      by-turn (on q) o a = record { page = q; shows = refl; onward = o; small = a }
+      by-turn (tells q r) o a = (
+        (λ fits. record { page = q; shows = refl; onward = rw (le-leb (length done + length-of r) 24576 fits) at o; small = a }),
+        (λ over. let same : i - 0 ≡ i = omega arith in rw (same-line, same-entry, same) (sym (rw (lt-leb (length done + length-of r) 24576 over) at o))),
+      )
+      by-turn (wrong slip size) o a = (a, rw (same-line, same-entry) (sym o))
 
--- where there is no mistake, whatever is said leads on
-goes-on : (done : List Record) (line : ℕ) (said : Said) (next : List Record → Meaning) (all : List Record)
-    → heard done line said next ≡ records all → next (kept done said) ≡ records all
-unfolding heard
-goes-on done line Nothing next all e = e
-goes-on done line (Told t) next all e = go (ltb (length done) 4096) e
-  where
-    go : (few : Bool) → cond few (next (done ++ (t ∷ []))) (mistake line TooMany) ≡ records all → next (done ++ (t ∷ [])) ≡ records all
-    go true e = e
-    go false e = absurd (let z : _≡_ {A = ℕ} 0 1 = cc in omega arith)
-goes-on done line (Wrong slip) next all e = absurd (let z : _≡_ {A = ℕ} 0 1 = cc in omega arith)
-
-module _ (text : List ℕ) (reader : Reader) (i : ℕ) (done : List Record) (w : Reached text reader i done) (h : i ≤ length text) where
-  hears : (said : Said) → reader-says reader (byte text i) ≡ said
-      → heard done (reader .line) said (λ more. read more (turn (w .page) (byte text i)) (drop (i + 1) (lined text))) ≡ reading text
-  unfolding read
-  hears said e =
-      let s : says (w .page) (byte text i) ≡ said = sym (says-shown (w .page) (byte text i)) ∙ ap (λ (r : Reader). reader-says r (byte text i)) (sym (w .shows)) ∙ e in
-      let l : w .page .line ≡ reader .line = sym (line-shown (w .page)) ∙ ap (λ (r : Reader). r .line) (sym (w .shows)) in
-      let o : read done (w .page) (byte text i ∷ drop (i + 1) (lined text)) ≡ reading text = rw (cut text i h) at (w .onward) in
-      rw (← s, ← l) o
-
-  next : (more : List Record) → read more (turn (w .page) (byte text i)) (drop (i + 1) (lined text)) ≡ reading text
-      → Reached text (reader-after reader (byte text i)) (i + 1) more
-  next more e = record {
-    page = turn (w .page) (byte text i);
-    shows = ap (λ (r : Reader). reader-after r (byte text i)) (w .shows) ∙ turn-shown (w .page) (byte text i);
-    onward = e;
-    line = omega (arith, line-after reader (byte text i), w .line);
-  }
-
-  pub on-nothing : reader-says reader (byte text i) ≡ Nothing → Reached text (reader-after reader (byte text i)) (i + 1) done
-  unfolding heard
-  on-nothing e = next done (hears Nothing e)
-
-  pub on-told : (t : Record) → reader-says reader (byte text i) ≡ Told t → length done < 4096
-      → Reached text (reader-after reader (byte text i)) (i + 1) (done ++ (t ∷ []))
-  unfolding heard
-  on-told t e few = next (done ++ (t ∷ [])) (rw (lt-ltb (length done) 4096 few) at (hears (Told t) e))
-
-  pub too-many : (t : Record) → reader-says reader (byte text i) ≡ Told t → 4096 ≤ length done → reading text ≡ mistake (reader .line) TooMany
-  unfolding heard
-  too-many t e many = sym (rw (le-ltb (length done) 4096 many) at (hears (Told t) e))
-
-  pub at-wrong : (slip : Slip) → reader-says reader (byte text i) ≡ Wrong slip → reading text ≡ mistake (reader .line) slip
-  unfolding heard
-  at-wrong slip e = sym (hears (Wrong slip) e)
-
-  pub on-sound : (all : List Record) → reading text ≡ records all → (said : Said) → reader-says reader (byte text i) ≡ said
-      → Reached text (reader-after reader (byte text i)) (i + 1) (kept done said)
-  on-sound all sound said e =
-      next (kept done said)
-      (goes-on done (reader .line) said (λ more. read more (turn (w .page) (byte text i)) (drop (i + 1) (lined text))) all (hears said e ∙ sound) ∙ sym sound)
-
-pub at-end : (text : List ℕ) (reader : Reader) (i : ℕ) (done : List Record) → Reached text reader i done → i ≡ length text + 1 → reading text ≡ records done
+pub at-end : (text : List ℕ) (reader : Reader) (i : ℕ) (done : List ℕ) → Reached text reader i done → i ≡ length text + 1 → meaning text ≡ record { file = done; ending = complete }
 unfolding read
 at-end text reader i done w e =
     let l : i ≡ length (lined text) = e ∙ sym (length-append text (10 ∷ [])) in
-    let o : read done (w .page) (drop (length (lined text)) (lined text)) ≡ reading text = rw (← l) (w .onward) in
+    let o : read done (w .page) i (drop (length (lined text)) (lined text)) ≡ meaning text = rw (← l) (w .onward) in
     sym (rw (drop-length (lined text)) at o)
 
--- records found are kept
-grows : (rest : List ℕ) (done : List Record) (p : Page) (all : List Record) → read done p rest ≡ records all → length done ≤ length all
-unfolding read
-grows [] done p all e = let same : done ≡ all = cc in rw same (omega arith)
-grows (b ∷ rest) done p all e =
-    le-trans (kept-grows done (says p b)) (grows rest (kept done (says p b)) (turn p b) all (goes-on done (p .line) (says p b) (λ more. read more (turn p b) rest) all e))
+-- ---- what a walk tells at its end
+pub walks-by : {text done old new : List ℕ} {writing : Bool} {r : Keyed} {ending : Ending} → meaning text ≡ record { file = done; ending = ending }
+    → new ≡ cond writing (sets old 0 done) old → Answers (record { file = done; ending = ending }) r → Walks text writing old r new
+walks-by e f a = record { answer = rw e a; bytes = rw e f }
 
-pub fits-all : (text : List ℕ) (reader : Reader) (i : ℕ) (done all : List Record) → Reached text reader i done → reading text ≡ records all → length done ≤ length all
-fits-all text reader i done all w e = grows (drop i (lined text)) done (w .page) all (w .onward ∙ e)
+-- nothing yet
+pub stored-none : (writing : Bool) (old : List ℕ) → old ≡ cond writing (sets old 0 []) old
+stored-none true old = refl
+stored-none false old = refl
 
--- no more than 4,096
-kept-few : (done : List Record) (line : ℕ) (said : Said) (next : List Record → Meaning) (all : List Record)
-    → heard done line said next ≡ records all → length done ≤ 4096 → length (kept done said) ≤ 4096
-unfolding heard
-kept-few done line Nothing next all e h = h
-kept-few done line (Told t) next all e h = go (ltb (length done) 4096) refl e
+-- as many bytes as before
+pub stored-length : (writing : Bool) (done old new : List ℕ) → new ≡ cond writing (sets old 0 done) old → length new ≡ length old
+stored-length true done old new e = ap length e ∙ length-sets old 0 done
+stored-length false done old new e = ap length e
+
+-- one record more
+pub stored-more : (writing : Bool) (done bytes old mid new : List ℕ) (at : ℕ) → at ≡ length done → mid ≡ cond writing (sets old 0 done) old
+    → new ≡ cond writing (sets mid at bytes) mid → new ≡ cond writing (sets old 0 (done ++ bytes)) old
+stored-more true done bytes old mid new at e f g =
+    let z : at ≡ 0 + length done = omega arith in
+    g ∙ ap (λ l. sets l at bytes) f ∙ rw z (sets-append done bytes old 0)
+stored-more false done bytes old mid new at e f g = g ∙ f
+
+-- a file is never longer than a job file may be (01, Numbers and limits: "at most 24,576 bytes")
+heard-few : (done : List ℕ) (p : Page) (i : ℕ) (t : Turn) (next : List ℕ → Page → Meaning) → length done ≤ 24576
+    → ((more : List ℕ) (q : Page) → length more ≤ 24576 → length (next more q .file) ≤ 24576) → length (heard done p i t next .file) ≤ 24576
+unfolding heard stopped
+heard-few done p i (on q) next h f = f done q h
+heard-few done p i (tells q r) next h f = go (leb (length done + length-of r) 24576) refl
   where
-    go : (few : Bool) → ltb (length done) 4096 ≡ few → cond few (next (done ++ (t ∷ []))) (mistake line TooMany) ≡ records all
-        → length (done ++ (t ∷ [])) ≤ 4096
-    go true q e = simp length-append (omega (arith, ltb-true (length done) 4096 q))
-    go false q e = absurd (let z : _≡_ {A = ℕ} 0 1 = cc in omega arith)
-kept-few done line (Wrong slip) next all e h = h
+    go : (t : Bool) → leb (length done + length-of r) 24576 ≡ t → length (cond t (next (done ++ bytes-of r) q) (stopped done p TooMany i 0) .file) ≤ 24576
+    go true e = f (done ++ bytes-of r) q (simp length-append (omega (arith, bytes-length r, leb-true (length done + length-of r) 24576 e)))
+    go false e = h
+heard-few done p i (wrong slip size) next h f = h
 
-few : (rest : List ℕ) (done : List Record) (p : Page) (all : List Record) → read done p rest ≡ records all → length done ≤ 4096 → length all ≤ 4096
+read-few : (rest done : List ℕ) (p : Page) (i : ℕ) → length done ≤ 24576 → length (read done p i rest .file) ≤ 24576
 unfolding read
-few [] done p all e h = let same : done ≡ all = cc in rw (← same) h
-few (b ∷ rest) done p all e h =
-    let next : List Record → Meaning = λ more. read more (turn p b) rest in
-    few rest (kept done (says p b)) (turn p b) all (goes-on done (p .line) (says p b) next all e) (kept-few done (p .line) (says p b) next all e h)
+read-few [] done p i h = h
+read-few (b ∷ rest) done p i h = heard-few done p i (turn p b) _ h (λ more q l. read-few rest more q (i + 1) l)
 
-pub reading-few : (text : List ℕ) (all : List Record) → reading text ≡ records all → length all ≤ 4096
-unfolding reading
-reading-few text all e = few (lined text) [] (fresh 1) all e (omega arith)
-
--- what a check told
-pub sound-all : (m : Meaning) (n : ℕ) → checked m ≡ Sound n → (all : List Record) × (m ≡ records all) × (length all ≡ n)
-unfolding checked
-sound-all (records all) n e = (all, refl, cc)
-sound-all (mistake line slip) n e = absurd (let z : _≡_ {A = ℕ} 0 1 = cc in omega arith)
-
-pub wrong-first : (m : Meaning) (line : ℕ) (slip : Slip) → checked m ≡ Checked'.Wrong line slip → m ≡ mistake line slip
-unfolding checked
-wrong-first (records all) line slip e = absurd (let z : _≡_ {A = ℕ} 0 1 = cc in omega arith)
-wrong-first (mistake l s) line slip e = cc
-
--- a text that is not too long means what it reads as
-pub as-read : (text : List ℕ) → length text ≤ 262144 → meaning text ≡ reading text
+pub meaning-few : (text : List ℕ) → length (meaning text .file) ≤ 24576
 unfolding meaning
-as-read text h = simp (le-leb (length text) 262144 h)
-
-pub too-long : (text : List ℕ) → 262144 < length text → meaning text ≡ mistake (last-line (take 262144 text)) TooLong
-unfolding meaning
-too-long text h = simp (lt-leb (length text) 262144 h)
-
--- a text means no more than 4,096 records (01, Numbers and limits)
-pub meaning-few : (text : List ℕ) (all : List Record) → meaning text ≡ records all → length all ≤ 4096
-meaning-few text all e = go (decLe (length text) 262144)
-  where
-    go : Dec (length text ≤ 262144) → length all ≤ 4096
-    go (yes h) = reading-few text all (sym (as-read text h) ∙ e)
-    go (no f) = absurd (let z : _≡_ {A = ℕ} 0 1 = cc (too-long text (lt-of-not-le f)) in omega arith)
+meaning-few text = read-few (drop (begin text) (lined text)) [] (fresh 1 1) (begin text) (omega arith)

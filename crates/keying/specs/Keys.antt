@@ -1,26 +1,28 @@
 -- What `key` promises: its answer, and the bytes lent to it.
 -- Assumes nothing.
-use mathlib.Core.Bool.{cond}
 use mathlib.Core.List.{List, _++_}
 use mathlib.Core.Path.{_≡_}
-use Prim.Native.Nat.{ℕ, _*_}
-use lib.Dec.{leb}
+use Prim.Native.Nat.{ℕ}
 use lib.ListN.{length, drop}
-use Rattle.keying.specs.Text.{Meaning, records, mistake, meaning}
-use Rattle.keying.specs.File.{file-bytes}
+use Rattle.keying.specs.Slip.{slip-number}
+use Rattle.keying.specs.Text.{Ending, complete, mistake, Meaning, meaning}
 use Rattle.keying.specs.declared.keyed.Keyed.{Keyed}
-use Rattle.keying.specs.declared.keyed.Keyed.the-variants.{Written, Mistake, Short}
+use Rattle.keying.specs.declared.keyed.Keyed.the-variants as keyed
 
--- the bytes written, the first mistake, or the bytes needed
-unfoldable pub answered : Meaning → List ℕ → Keyed
-answered (records rs) out = cond (leb (6 * length rs) (length out)) (Written (6 * length rs)) (Short (6 * length rs))
-answered (mistake line slip) out = Mistake line slip
+-- the values of every case: the bytes written; the line, the entry, the number, the place and the size of a mistake
+abbrev pub Says : Keyed → (ℕ → Type 0) → (ℕ → ℕ → ℕ → ℕ → ℕ → Type 0) → Type 0
+Says (keyed.Written n) P Q = P n
+Says (keyed.Mistake m) P Q = Q (m .line) (m .entry) (slip-number (m .slip)) (m .start) (m .size)
 
--- the file, and the bytes beyond it as they were; after a mistake, and where the bytes are too few, all as it was
-unfoldable pub left : Meaning → List ℕ → List ℕ
-left (records rs) out = cond (leb (6 * length rs) (length out)) (file-bytes rs ++ drop (6 * length rs) out) out
-left (mistake line slip) out = out
+abbrev pub Answers : Meaning → Keyed → Type 0
+Answers m r = Says r (λ n. (m .ending ≡ complete) × (n ≡ length (m .file))) (λ line entry number start size. m .ending ≡ mistake line entry number start size)
 
-pub record Keys (text out : List ℕ) (result : Keyed) (after : List ℕ) : Type 0 where
-  pub answer : result ≡ answered (meaning text) out
-  pub bytes : after ≡ left (meaning text) out
+-- the file, and the bytes beyond it as they were; after a mistake all as it was
+abbrev pub left : Ending → List ℕ → List ℕ → List ℕ
+left complete file out = file ++ drop (length file) out
+left (mistake line entry number start size) file out = out
+
+-- what key promises
+pub record Keys (text out : List ℕ) (r : Keyed) (after : List ℕ) : Type 0 where
+  pub answer : Answers (meaning text) r
+  pub bytes : after ≡ left (meaning text .ending) (meaning text .file) out

@@ -1,20 +1,32 @@
--- What a keyed text means: its records, or its first mistake.
+-- What a keyed text means: the job file that it tells, and its first mistake.
 -- A text is lines, a line is entries parted by commas, an entry is words parted by blanks; `#` begins a remark that ends with its line.
 -- Assumes nothing.
-use mathlib.Core.Bool.{Bool, true, false, cond, _&&_, _||_}
+use mathlib.Core.Bool.{Bool, true, false, cond, not, _&&_, _||_}
 use mathlib.Core.List.{List, [], _∷_, _++_}
 use Prim.Native.Nat.{ℕ, _+_, _-_, _*_}
 use lib.Dec.{eqb, leb, ltb}
-use lib.ListN.{length, take}
-use Rattle.keying.specs.declared.entry.Record.{Record}
+use lib.ListN.{length, getD, drop}
+use Rattle.records.specs.declared.Record.{Record}
+use Rattle.records.specs.declared.Record.the-variants.{Job, Order, Deadline}
+use Rattle.records.specs.declared.Found.{Found}
+use Rattle.records.specs.declared.Found.the-variants as found
+use Rattle.records.specs.Record.{bytes-of, length-of}
+use Rattle.records.specs.Find.{record-named}
 use Rattle.keying.specs.declared.entry.Slip.{Slip}
-use Rattle.keying.specs.declared.entry.Slip.the-variants.{UnknownWord, MissingField, ExtraField, NotNumber, TooLarge, TooMany, TooLong}
-use Rattle.keying.specs.declared.entry.Said.{Said}
-use Rattle.keying.specs.declared.entry.Said.the-variants.{Nothing, Told, Wrong}
+use Rattle.keying.specs.declared.entry.Slip.the-variants.{UnknownWord, MissingField, ExtraField, NotNumber, TooLarge, TooMany, CommaNumber}
+use Rattle.keying.specs.declared.entry.Entry.{Entry}
+use Rattle.keying.specs.declared.entry.Taken.{Taken}
+use Rattle.keying.specs.declared.entry.Taken.the-variants.{Grown, Wrong}
+use Rattle.keying.specs.Slip.{slip-number}
 
+-- ---- bytes and words
 -- a space, a tab, or a carriage return
 unfoldable pub blank : ℕ → Bool
 blank b = eqb b 32 || eqb b 9 || eqb b 13
+
+-- part of a word or of a remark: no newline, and outside a remark no comma, no `#` and no blank
+unfoldable pub inner : Bool → ℕ → Bool
+inner remark b = cond (eqb b 10) false (cond remark true (cond (eqb b 44) false (cond (eqb b 35) false (not (blank b)))))
 
 -- `0` to `9`
 unfoldable pub digit : ℕ → Bool
@@ -29,91 +41,118 @@ unfoldable pub counted : ℕ → List ℕ → ℕ
 counted n [] = n
 counted n (b ∷ word) = counted (10 * n + (b - 48)) word
 
--- the number that a word of digits writes
-abbrev pub decimal : List ℕ → ℕ
-decimal word = counted 0 word
-
--- a word of two bytes as a 16-bit number, high byte first, and 0 for any other word
+-- a word of two bytes as a mark, high byte first, and 0 for any other word
 unfoldable pub mark : List ℕ → ℕ
 mark [] = 0
 mark (a ∷ []) = 0
 mark (a ∷ b ∷ []) = 256 * a + b
 mark (a ∷ b ∷ c ∷ word) = 0
 
--- `JB`, `OR`, `TG` in ASCII (01, Job file)
-unfoldable pub known : ℕ → Bool
-known m = eqb m 0x4A42 || eqb m 0x4F52 || eqb m 0x5447
+-- ---- an entry, word by word: how many words it has, and the record they tell, with 0 for a field to come
+abbrev pub no-entry : Entry
+no-entry = record { filled = 0; told = Job 0 0 }
 
--- a field is a number of 16 bits (01, Numbers and limits: "All fields arrive as 16-bit numbers"); if it is, what comes next is said
-unfoldable pub field : List ℕ → Said → Said
-field word next = cond (digits word) (cond (leb (decimal word) 65535) next (Wrong TooLarge)) (Wrong NotNumber)
+abbrev pub set-first : Record → ℕ → Record
+set-first (Job a b) n = Job n b
+set-first (Order a b) n = Order n b
+set-first (Deadline a b) n = Deadline n b
 
--- what a mark and the words after it say
-unfoldable pub fields : ℕ → List (List ℕ) → Said
-fields m [] = Wrong MissingField
-fields m (a ∷ []) = field a (Wrong MissingField)
-fields m (a ∷ b ∷ []) = field a (field b (Told (record { mark = m; first = decimal a; second = decimal b })))
-fields m (a ∷ b ∷ c ∷ words) = field a (field b (Wrong ExtraField))
+abbrev pub set-second : Record → ℕ → Record
+set-second (Job a b) n = Job a n
+set-second (Order a b) n = Order a n
+set-second (Deadline a b) n = Deadline a n
 
--- what the words of an entry say: its first mistake from left to right, or a record
-unfoldable pub judge : List (List ℕ) → Said
-judge [] = Nothing
-judge (word ∷ words) = cond (known (mark word)) (fields (mark word) words) (Wrong UnknownWord)
+-- one field more
+unfoldable pub grown-by : Entry → ℕ → Entry
+grown-by e n = cond (eqb (e .filled) 1) (record { filled = 2; told = set-first (e .told) n }) (record { filled = 3; told = set-second (e .told) n })
 
--- where a reader stands: the line, counted from 1; within a remark or not; the words of the entry, and the word under way
+-- a field is a number of 16 bits (01, Numbers and limits: "All fields arrive as 16-bit numbers")
+unfoldable pub field : Entry → List ℕ → Taken
+field e word = cond (digits word) (cond (leb (counted 0 word) 65535) (Grown (grown-by e (counted 0 word))) (Wrong TooLarge)) (Wrong NotNumber)
+
+-- a record by its mark, or else
+abbrev pub or-else : Found → Taken → Taken
+or-else (found.Record r) other = Grown (record { filled = 1; told = r })
+or-else found.End other = other
+or-else (found.Stopped number value) other = other
+
+-- the first word is a mark of 01; digits alone, behind a comma, are a number that was keyed with a comma in it
+unfoldable pub first-word : ℕ → List ℕ → Taken
+first-word place word = or-else (record-named (mark word) 0 0 0) (Wrong (cond (ltb 1 place && digits word) CommaNumber UnknownWord))
+
+-- the entry at a place of its line, with a word more, or what is wrong with the word
+unfoldable pub worded : ℕ → Entry → List ℕ → Taken
+worded place e [] = Grown e
+worded place e (b ∷ word) =
+    cond (eqb (e .filled) 0) (first-word place (b ∷ word)) (cond (eqb (e .filled) 3) (Wrong ExtraField) (field e (b ∷ word)))
+
+-- ---- a page: where a reader stands
+-- the line; the entry of the line, both counted from 1; within a remark or not; the entry so far, and the word under way
 pub record Page : Type 0 where
   pub line : ℕ
+  pub entry : ℕ
   pub remark : Bool
-  pub words : List (List ℕ)
+  pub told : Entry
   pub word : List ℕ
 
--- the words, with the word under way if one was begun
-unfoldable pub ended : List (List ℕ) → List ℕ → List (List ℕ)
-ended words [] = words
-ended words (b ∷ word) = words ++ ((b ∷ word) ∷ [])
-
 -- the start of an entry
-unfoldable pub fresh : ℕ → Page
-fresh n = record { line = n; remark = false; words = []; word = [] }
+unfoldable pub fresh : ℕ → ℕ → Page
+fresh line entry = record { line = line; entry = entry; remark = false; told = no-entry; word = [] }
 
--- what a byte makes known: a newline, and a comma outside a remark, end an entry
-unfoldable pub says : Page → ℕ → Said
-says p b = cond (eqb b 10) (judge (ended (p .words) (p .word))) (cond (p .remark) Nothing (cond (eqb b 44) (judge (ended (p .words) (p .word))) Nothing))
+-- what a byte does: the reader goes on; an entry ended and told a record; a mistake, with the size of the word that is wrong, and 0 where none is
+pub data Turn : Type 0 where
+  on : Page → Turn
+  tells : Page → Record → Turn
+  wrong : Slip → ℕ → Turn
 
--- where the reader stands after a byte: newline; inside a remark; comma; `#`; a blank; a byte of a word
-unfoldable pub turn : Page → ℕ → Page
-turn p b =
-    cond (eqb b 10) (fresh (p .line + 1))
-    (cond (p .remark) p
-    (cond (eqb b 44) (fresh (p .line))
-    (cond (eqb b 35) (record { line = p .line; remark = true; words = p .words; word = p .word })
-    (cond (blank b) (record { line = p .line; remark = false; words = ended (p .words) (p .word); word = [] })
-    (record { line = p .line; remark = false; words = p .words; word = p .word ++ (b ∷ []) })))))
+-- a byte of a word, or of a remark
+unfoldable pub grown : Page → ℕ → Page
+grown p b = cond (p .remark) p (record { line = p .line; entry = p .entry; remark = false; told = p .told; word = p .word ++ (b ∷ []) })
 
-pub data Meaning : Type 0 where
-  records : List Record → Meaning
-  mistake : ℕ → Slip → Meaning
+-- the end of an entry: it has no word, or three
+unfoldable pub finished : Entry → Page → Turn
+finished e next = cond (eqb (e .filled) 0) (on next) (cond (eqb (e .filled) 3) (tells next (e .told)) (wrong MissingField 0))
 
--- what follows from what was said on a line: a mistake is the end of it, and so is a record beyond 4,096 (01, Numbers and limits)
-unfoldable pub heard : List Record → ℕ → Said → (List Record → Meaning) → Meaning
-heard done line Nothing next = next done
-heard done line (Told r) next = cond (ltb (length done) 4096) (next (done ++ (r ∷ []))) (mistake line TooMany)
-heard done line (Wrong slip) next = mistake line slip
+-- a word ended: newline; comma; else `#` or a blank
+unfoldable pub ended : Page → ℕ → Taken → Turn
+ended p b (Wrong slip) = wrong slip (length (p .word))
+ended p b (Grown e) =
+    cond (eqb b 10) (finished e (fresh (p .line + 1) 1))
+    (cond (eqb b 44) (finished e (fresh (p .line) (p .entry + 1)))
+    (on (record { line = p .line; entry = p .entry; remark = eqb b 35; told = e; word = [] })))
 
--- the records found already, then those of the rest
-unfoldable pub read : List Record → Page → List ℕ → Meaning
-read done p [] = records done
-read done p (b ∷ rest) = heard done (p .line) (says p b) (λ more. read more (turn p b) rest)
+unfoldable pub turn : Page → ℕ → Turn
+turn p b = cond (inner (p .remark) b) (on (grown p b)) (ended p b (worded (p .entry) (p .told) (p .word)))
+
+-- ---- a whole text
+-- no mistake; or its line, its entry, its number, where the word that is wrong stands in the text, and the word's size
+pub data Ending : Type 0 where
+  complete : Ending
+  mistake : (line entry number start size : ℕ) → Ending
+
+-- the bytes of the records before the ending
+pub record Meaning : Type 0 where
+  pub file : List ℕ
+  pub ending : Ending
+
+unfoldable pub stopped : List ℕ → Page → Slip → ℕ → ℕ → Meaning
+stopped done p slip start size = record { file = done; ending = mistake (p .line) (p .entry) (slip-number slip) start size }
+
+-- what follows from a byte at a place (01, Numbers and limits: "A job file holds at most 24,576 bytes")
+unfoldable pub heard : List ℕ → Page → ℕ → Turn → (List ℕ → Page → Meaning) → Meaning
+heard done p i (on q) next = next done q
+heard done p i (tells q r) next = cond (leb (length done + length-of r) 24576) (next (done ++ bytes-of r) q) (stopped done p TooMany i 0)
+heard done p i (wrong slip size) next = stopped done p slip (i - size) size
+
+-- the bytes found already, then those of the rest, which begins at a place
+unfoldable pub read : List ℕ → Page → ℕ → List ℕ → Meaning
+read done p i [] = record { file = done; ending = complete }
+read done p i (b ∷ rest) = heard done p i (turn p b) (λ more q. read more q (i + 1) rest)
+
+-- past a byte order mark
+unfoldable pub begin : List ℕ → ℕ
+begin text = cond (eqb (getD text 0 10) 0xEF && eqb (getD text 1 10) 0xBB && eqb (getD text 2 10) 0xBF) 3 0
 
 -- the end of the text ends its last line
-unfoldable pub reading : List ℕ → Meaning
-reading text = read [] (fresh 1) (text ++ (10 ∷ []))
-
--- the line on which a text ends
-unfoldable pub last-line : List ℕ → ℕ
-last-line [] = 1
-last-line (b ∷ text) = cond (eqb b 10) (last-line text + 1) (last-line text)
-
--- a text of more than 262,144 bytes is too long on the line where it passes them
 unfoldable pub meaning : List ℕ → Meaning
-meaning text = cond (leb (length text) 262144) (reading text) (mistake (last-line (take 262144 text)) TooLong)
+meaning text = read [] (fresh 1 1) (begin text) (drop (begin text) (text ++ (10 ∷ [])))

@@ -1,18 +1,13 @@
-// An entry of a keyed text, word by word, and what it says at its end.
+// An entry of a keyed text, word by word: each word is judged where it ends.
 use crate::word;
 use crate::word::Word;
+use records::Found;
+use records::Record;
 ghost use mathlib.Core.Path.{_≡_};
-ghost use Rattle.keying.specs.Text.{known};
-ghost use Rattle.keying.specs.Inner.Machine.{no-entry, entry-with, fields-say, entry-says};
+ghost use Rattle.keying.specs.Text.{no-entry, set-first, set-second, grown-by};
+ghost use Rattle.keying.specs.Inner.Machine.{no-mark, first-by, numbered, entry-with};
 
-// A record of a job file: three 16-bit numbers.
-pub struct Record {
-    pub mark: u16,
-    pub first: u16,
-    pub second: u16,
-}
-
-// What can be wrong with an entry, and with a text.
+// What can be wrong with a keyed text.
 pub enum Slip {
     UnknownWord,
     MissingField,
@@ -20,21 +15,18 @@ pub enum Slip {
     NotNumber,
     TooLarge,
     TooMany,
-    TooLong,
+    CommaNumber,
 }
 
-pub enum Said {
-    Nothing,
-    Told(Record),
-    Wrong(Slip),
-}
-
-// How many words there are, up to 4, and what the first three say.
+// How many words there are, up to 3, and the record that they tell, with 0 for a field to come.
 pub struct Entry {
     pub filled: u8,
-    pub mark: u16,
-    pub first: u32,
-    pub second: u32,
+    pub told: Record,
+}
+
+pub enum Taken {
+    Grown(Entry),
+    Wrong(Slip),
 }
 
 // No word yet.
@@ -43,101 +35,97 @@ pub fn none() -> Entry
 {
     Entry {
         filled: 0,
-        mark: 0,
-        first: 0,
-        second: 0,
+        told: Record::Job(0, 0),
     }
 }
 
-// The entry with the word at its end, unless no word was begun.
-pub fn with(entry: Entry, word: Word) -> Entry
-    ensures { λ r. ⌜ r ≡ entry-with entry word ⌝ }
+// The entry with the word at its end, unless no word was begun. The place of the entry in its line counts from 1.
+pub fn with(entry: Entry, place: usize, word: Word) -> Taken
+    ensures { λ r. ⌜ r ≡ entry-with entry place word ⌝ }
 {
     let size = word.size;
     let filled = entry.filled;
     if size == 0 {
-        return entry;
+        return Taken::Grown(entry);
     }
-    let mut longer = entry;
     if filled == 0 {
-        longer.filled = 1;
-        longer.mark = word::mark(word);
-        return longer;
-    }
-    if filled == 1 {
-        longer.filled = 2;
-        longer.first = word.number;
-        return longer;
-    }
-    if filled == 2 {
-        longer.filled = 3;
-        longer.second = word.number;
-        return longer;
-    }
-    longer.filled = 4;
-    longer
-}
-
-// Its first mistake from left to right, or the record that it tells.
-pub fn judged(entry: Entry) -> Said
-    ensures { λ r. ⌜ r ≡ entry-says entry ⌝ }
-{
-    let filled = entry.filled;
-    let mark = entry.mark;
-    if filled == 0 {
-        return Said::Nothing;
-    }
-    if !is_known(mark) {
-        return Said::Wrong(Slip::UnknownWord);
-    }
-    fields(entry)
-}
-
-// What its fields say, once its first word is known.
-fn fields(entry: Entry) -> Said
-    ensures { λ r. ⌜ r ≡ fields-say entry ⌝ }
-{
-    let filled = entry.filled;
-    let mark = entry.mark;
-    let first = entry.first;
-    let second = entry.second;
-    if filled == 1 {
-        return Said::Wrong(Slip::MissingField);
-    }
-    if first > 65536 {
-        return Said::Wrong(Slip::NotNumber);
-    }
-    if first > 65535 {
-        return Said::Wrong(Slip::TooLarge);
-    }
-    if filled == 2 {
-        return Said::Wrong(Slip::MissingField);
-    }
-    if second > 65536 {
-        return Said::Wrong(Slip::NotNumber);
-    }
-    if second > 65535 {
-        return Said::Wrong(Slip::TooLarge);
+        return first(place, word);
     }
     if filled == 3 {
-        return Said::Told(Record {
-            mark: mark,
-            first: first as u16,
-            second: second as u16,
-        });
+        return Taken::Wrong(Slip::ExtraField);
     }
-    Said::Wrong(Slip::ExtraField)
+    field(entry, word.number)
 }
 
-// `JB`, `OR` or `TG`.
-pub fn is_known(mark: u16) -> bool
-    ensures { λ r. ⌜ r ≡ known mark ⌝ }
+// A mark.
+fn first(place: usize, word: Word) -> Taken
+    ensures { λ r. ⌜ r ≡ first-by place word ⌝ }
 {
-    if mark == 0x4A42 {
-        return true;
+    let number = word.number;
+    match records::named(word::mark(word), 0, 0, 0) {
+        Found::Record(told) => Taken::Grown(Entry { filled: 1, told }),
+        Found::End => unknown(place, number),
+        Found::Stopped(_, _) => unknown(place, number),
     }
-    if mark == 0x4F52 {
-        return true;
+}
+
+// No mark: digits alone, behind a comma, are a number that was keyed with a comma in it.
+fn unknown(place: usize, number: u32) -> Taken
+    ensures { λ r. ⌜ r ≡ no-mark place number ⌝ }
+{
+    if place > 1 {
+        if number <= 65536 {
+            return Taken::Wrong(Slip::CommaNumber);
+        }
     }
-    mark == 0x5447
+    Taken::Wrong(Slip::UnknownWord)
+}
+
+fn field(entry: Entry, number: u32) -> Taken
+    ensures { λ r. ⌜ r ≡ numbered entry number ⌝ }
+{
+    if number > 65536 {
+        return Taken::Wrong(Slip::NotNumber);
+    }
+    if number > 65535 {
+        return Taken::Wrong(Slip::TooLarge);
+    }
+    Taken::Grown(grown(entry, number as u16))
+}
+
+fn grown(entry: Entry, number: u16) -> Entry
+    ensures { λ r. ⌜ r ≡ grown-by entry number ⌝ }
+{
+    let filled = entry.filled;
+    let told = entry.told;
+    if filled == 1 {
+        return Entry {
+            filled: 2,
+            told: with_first(told, number),
+        };
+    }
+    Entry {
+        filled: 3,
+        told: with_second(told, number),
+    }
+}
+
+fn with_first(told: Record, number: u16) -> Record
+    ensures { λ r. ⌜ r ≡ set-first told number ⌝ }
+{
+    match told {
+        Record::Job(_, second) => Record::Job(number, second),
+        Record::Order(_, second) => Record::Order(number, second),
+        Record::Deadline(_, second) => Record::Deadline(number, second),
+    }
+}
+
+fn with_second(told: Record, number: u16) -> Record
+    ensures { λ r. ⌜ r ≡ set-second told number ⌝ }
+{
+    match told {
+        Record::Job(first, _) => Record::Job(first, number),
+        Record::Order(first, _) => Record::Order(first, number),
+        Record::Deadline(first, _) => Record::Deadline(first, number),
+    }
 }

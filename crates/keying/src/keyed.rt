@@ -1,99 +1,113 @@
-// A keyed text becomes a job file: one walk to check and count, and one to write.
-use crate::entry::Record;
-use crate::entry::Said;
+// A keyed text becomes a job file: one walk to check it, and one to write.
 use crate::entry::Slip;
-use crate::line;
-use crate::number::high;
-use crate::number::low;
 use crate::reader;
+use crate::reader::Reader;
+use crate::reader::Step;
+use records::Record;
+ghost use mathlib.Core.Bool.{cond};
 ghost use mathlib.Core.Path.{_≡_};
 ghost use Prim.Native.Nat.{_+_, _≤_};
 ghost use lib.ListN.{length, getD};
 ghost use lib.Seq.{sets};
-ghost use Rattle.keying.specs.Text.{reading};
-ghost use Rattle.keying.specs.File.{record-bytes};
-ghost use Rattle.keying.specs.Keys.{Keys, left};
-ghost use Rattle.keying.specs.Inner.Walk.{checked, Room};
+ghost use Rattle.records.specs.Record.{bytes-of, length-of};
+ghost use Rattle.keying.specs.Text.{begin as begin-of};
+ghost use Rattle.keying.specs.Keys.{Keys};
+ghost use Rattle.keying.specs.Inner.Walk.{Walks, mistake-at};
+
+pub struct Mistake {
+    // counted from 1
+    pub line: usize,
+    // of the line, counted from 1
+    pub entry: usize,
+    pub slip: Slip,
+    // where the word that is wrong stands in the text, and its size: 0 where no word is
+    pub start: usize,
+    pub size: usize,
+}
 
 pub enum Keyed {
     // bytes written
     Written(usize),
-    // line, counted from 1
-    Mistake(usize, Slip),
-    // bytes needed
-    Short(usize),
+    Mistake(Mistake),
 }
 
-pub enum Checked {
-    Sound(usize),
-    Wrong(usize, Slip),
-}
-
-// The job file of a keyed text, from the first of the bytes lent.
-pub fn key(text: &[u8], out: &mut [u8]) -> Keyed
+// The job file of a keyed text, from the first of the bytes lent, which are enough for any file.
+pub fn key(text: &[u8], out: &mut [u8; 24576]) -> Keyed
     ensures { λ r. ⌜ Keys (now (text .entry)) (now (out .entry)) r (now (out .exit)) ⌝ }
 {
-    if text.len() > 262144 {
-        return Keyed::Mistake(line::last(&text[..262144]), Slip::TooLong);
-    }
-    match check(text) {
-        Checked::Wrong(line, slip) => Keyed::Mistake(line, slip),
-        Checked::Sound(count) => {
-            let needed = 6 * count;
-            if needed <= out.len() {
-                write(text, out);
-                Keyed::Written(needed)
-            } else {
-                Keyed::Short(needed)
-            }
-        }
+    match walk(text, out, false) {
+        Keyed::Mistake(mistake) => Keyed::Mistake(mistake),
+        Keyed::Written(_) => walk(text, out, true),
     }
 }
 
-// How many records the text has, or its first mistake.
-fn check(text: &[u8]) -> Checked
-    ensures { λ r. ⌜ r ≡ checked (reading (now (text .entry))) ⌝ }
+// Up to the end of the text or its first mistake; the records are stored if they are to be written.
+fn walk(text: &[u8], out: &mut [u8], writing: bool) -> Keyed
+    requires { ⌜ 24576 ≤ length (now out) ⌝ }
+    ensures { λ r. ⌜ Walks (now (text .entry)) writing (now (out .entry)) r (now (out .exit)) ⌝ }
 {
-    let mut reader = reader::fresh(1);
-    let mut count: usize = 0;
-    let mut i: usize = 0;
-    while i <= text.len() {
-        let byte = byte_at(text, i);
-        match reader::says(reader, byte) {
-            Said::Nothing => {}
-            Said::Told(_) => {
-                if count >= 4096 {
-                    return Checked::Wrong(reader.line, Slip::TooMany);
-                }
-                count += 1;
-            }
-            Said::Wrong(slip) => {
-                return Checked::Wrong(reader.line, slip);
-            }
-        }
-        reader = reader::after(reader, byte);
-        i += 1;
-    }
-    Checked::Sound(count)
-}
-
-// Writes the records of a text that has no mistake.
-fn write(text: &[u8], out: &mut [u8])
-    requires { ⌜ Room (reading (now text)) (now out) ⌝ }
-    ensures { λ _. ⌜ now (out .exit) ≡ left (reading (now (text .entry))) (now (out .entry)) ⌝ }
-{
-    let mut reader = reader::fresh(1);
+    let mut reader = reader::fresh(1, 1);
     let mut at: usize = 0;
-    let mut i: usize = 0;
+    let mut i = begin(text);
     while i <= text.len() {
-        let byte = byte_at(text, i);
-        if let Said::Told(told) = reader::says(reader, byte) {
-            store(out, at, told);
-            at += 6;
+        match reader::take(reader, byte_at(text, i)) {
+            Step::On(next) => {
+                reader = next;
+            }
+            Step::Told(next, told) => {
+                if records::length_of(told) > 24576 - at {
+                    return slipped(reader, Slip::TooMany, i, 0);
+                }
+                put(out, at, writing, told);
+                at += records::length_of(told);
+                reader = next;
+            }
+            Step::Wrong(slip, size) => {
+                return slipped(reader, slip, i, size);
+            }
         }
-        reader = reader::after(reader, byte);
         i += 1;
     }
+    Keyed::Written(at)
+}
+
+// The word that is wrong ends where the walk stands.
+fn slipped(reader: Reader, slip: Slip, i: usize, size: usize) -> Keyed
+    requires { ⌜ size ≤ i ⌝ }
+    ensures { λ r. ⌜ r ≡ mistake-at reader slip i size ⌝ }
+{
+    Keyed::Mistake(Mistake {
+        line: reader.line,
+        entry: reader.entry,
+        slip: slip,
+        start: i - size,
+        size: size,
+    })
+}
+
+fn put(out: &mut [u8], at: usize, writing: bool, told: Record)
+    requires { ⌜ at + length-of told ≤ length (now out) ⌝ }
+    ensures { λ _. ⌜ now (out .exit) ≡ cond writing (sets (now (out .entry)) at (bytes-of told)) (now (out .entry)) ⌝ }
+{
+    if writing {
+        records::store(out, at, told);
+    }
+}
+
+// Past a byte order mark.
+fn begin(text: &[u8]) -> usize
+    ensures { λ r. ⌜ (r ≡ begin-of (now (text .entry))) × (r ≤ length (now (text .entry))) ⌝ }
+{
+    if byte_at(text, 0) != 0xEF {
+        return 0;
+    }
+    if byte_at(text, 1) != 0xBB {
+        return 0;
+    }
+    if byte_at(text, 2) != 0xBF {
+        return 0;
+    }
+    3
 }
 
 // The byte at a place; a newline past the end, where the last line ends.
@@ -104,17 +118,4 @@ fn byte_at(text: &[u8], i: usize) -> u8
         return text[i];
     }
     b'\n'
-}
-
-// The six bytes of a record.
-fn store(out: &mut [u8], at: usize, told: Record)
-    requires { ⌜ at + 6 ≤ length (now out) ⌝ }
-    ensures { λ _. ⌜ now (out .exit) ≡ sets (now (out .entry)) at (record-bytes told) ⌝ }
-{
-    out[at] = high(told.mark);
-    out[at + 1] = low(told.mark);
-    out[at + 2] = high(told.first);
-    out[at + 3] = low(told.first);
-    out[at + 4] = high(told.second);
-    out[at + 5] = low(told.second);
 }

@@ -1,122 +1,64 @@
-// A job file becomes lines: one walk to check and count, and one to write.
-use crate::entry;
-use crate::entry::Record;
-use crate::number;
-use crate::number::high;
-use crate::number::low;
-ghost use mathlib.Core.List.{[]};
-ghost use mathlib.Core.Path.{_≡_};
-ghost use Prim.Native.Nat.{_+_, _≤_, _<_};
+// A job file becomes lines: one walk to check it, and one to write.
+use records::Found;
+use records::Record;
+use refusal::Answer;
+ghost use mathlib.Core.List.{[], _∷_};
+ghost use Prim.Native.Nat.{_≤_};
 ghost use lib.ListN.{length};
-ghost use lib.Seq.{sets};
-ghost use Rattle.keying.specs.Lines.{Lines, contents, lines-left, column, columns, line-bytes};
-ghost use Rattle.keying.specs.Inner.Walk.{Paper, surveyed};
+ghost use Rattle.text.specs.Fill.{filled};
+ghost use Rattle.text.specs.Put.{Puts};
+ghost use Rattle.keying.specs.Lines.{Lines, line-of};
+ghost use Rattle.keying.specs.Inner.Walk.{Prints};
 
-pub enum Lined {
-    // bytes written
-    Written(usize),
-    // offset where no record stands
-    Bad(usize),
-    // bytes needed
-    Short(usize),
-}
-
-pub enum Survey {
-    Records(usize),
-    Broken(usize),
-}
-
-// The lines of a job file, from the first of the bytes lent.
-pub fn lines(file: &[u8], out: &mut [u8]) -> Lined
+// The lines of a job file, from the first of the bytes lent, which are enough for any file; the answer is how many bytes they are, or the refusal that stops it.
+pub fn lines(file: &[u8], out: &mut [u8; 61440]) -> Answer
     ensures { λ r. ⌜ Lines (now (file .entry)) (now (out .entry)) r (now (out .exit)) ⌝ }
 {
-    match scan(file) {
-        Survey::Broken(at) => Lined::Bad(at),
-        Survey::Records(count) => {
-            let needed = 15 * count;
-            if needed <= out.len() {
-                print(file, out);
-                Lined::Written(needed)
-            } else {
-                Lined::Short(needed)
+    match walk(file, out, false) {
+        Answer::Refused(number, value) => Answer::Refused(number, value),
+        Answer::Accepted(_) => walk(file, out, true),
+    }
+}
+
+// Up to the end of the file or what stops it; the lines are put if they are to be written.
+fn walk(file: &[u8], out: &mut [u8], writing: bool) -> Answer
+    requires { ⌜ 61440 ≤ length (now out) ⌝ }
+    ensures { λ r. ⌜ Prints (now (file .entry)) writing (now (out .entry)) r (now (out .exit)) ⌝ }
+{
+    let mut at: usize = 0;
+    let mut to: usize = 0;
+    loop {
+        match records::record_at(file, at) {
+            Found::Record(told) => {
+                if writing {
+                    to = line(out, to, told);
+                }
+                at += records::length_of(told);
+            }
+            Found::End => {
+                return Answer::Accepted(to);
+            }
+            Found::Stopped(number, value) => {
+                return Answer::Refused(number, value);
             }
         }
     }
 }
 
-// How many records the file has, or the offset where none stands.
-fn scan(file: &[u8]) -> Survey
-    ensures { λ r. ⌜ r ≡ surveyed (contents [] (now (file .entry))) ⌝ }
+// A record as a line.
+fn line(out: &mut [u8], at: usize, told: Record) -> usize
+    ensures { λ r. ⌜ Puts (line-of told) at (now (out .entry)) (now (out .exit)) r ⌝ }
 {
-    let mut count: usize = 0;
-    let mut at: usize = 0;
-    while at < file.len() {
-        if file.len() - at < 6 {
-            return Survey::Broken(at);
-        }
-        if count >= 4096 {
-            return Survey::Broken(at);
-        }
-        if !entry::is_known(number::at(file, at)) {
-            return Survey::Broken(at);
-        }
-        count += 1;
-        at += 6;
-    }
-    Survey::Records(count)
-}
-
-// Writes the lines of a file of whole records.
-fn print(file: &[u8], out: &mut [u8])
-    requires { ⌜ Paper (contents [] (now file)) (now out) ⌝ }
-    ensures { λ _. ⌜ now (out .exit) ≡ lines-left (contents [] (now (file .entry))) (now (out .entry)) ⌝ }
-{
-    let mut at: usize = 0;
-    let mut to: usize = 0;
-    while at < file.len() {
-        let told = Record {
-            mark: number::at(file, at),
-            first: number::at(file, at + 2),
-            second: number::at(file, at + 4),
-        };
-        line(out, to, told);
-        at += 6;
-        to += 15;
+    match told {
+        Record::Job(start, deadline) => fields(out, at, b"JB \x00 \x01\n", start, deadline),
+        Record::Order(first, second) => fields(out, at, b"OR \x00 \x01\n", first, second),
+        Record::Deadline(job, deadline) => fields(out, at, b"TG \x00 \x01\n", job, deadline),
     }
 }
 
-// The fifteen bytes of a line.
-fn line(out: &mut [u8], at: usize, told: Record)
-    requires { ⌜ at + 15 ≤ length (now out) ⌝ }
-    ensures { λ _. ⌜ now (out .exit) ≡ sets (now (out .entry)) at (line-bytes told) ⌝ }
+fn fields(out: &mut [u8], at: usize, pattern: &[u8], first: u16, second: u16) -> usize
+    ensures { λ r. ⌜ Puts (filled (first ∷ second ∷ []) (now (pattern .entry))) at (now (out .entry)) (now (out .exit)) r ⌝ }
 {
-    out[at] = high(told.mark);
-    out[at + 1] = low(told.mark);
-    out[at + 2] = b' ';
-    field(out, at + 3, told.first);
-    out[at + 8] = b' ';
-    field(out, at + 9, told.second);
-    out[at + 14] = b'\n';
-}
-
-fn field(out: &mut [u8], at: usize, number: u16)
-    requires { ⌜ at + 5 ≤ length (now out) ⌝ }
-    ensures { λ _. ⌜ now (out .exit) ≡ sets (now (out .entry)) at (columns number) ⌝ }
-{
-    out[at] = digit(number, 10000);
-    out[at + 1] = digit(number, 1000);
-    out[at + 2] = digit(number, 100);
-    out[at + 3] = digit(number, 10);
-    out[at + 4] = b'0' + (number % 10) as u8;
-}
-
-// The digit at a power of ten, and a blank before the first digit.
-fn digit(number: u16, power: u16) -> u8
-    requires { ⌜ 0 < power ⌝ }
-    ensures { λ r. ⌜ r ≡ column number power ⌝ }
-{
-    if number < power {
-        return b' ';
-    }
-    b'0' + (number / power % 10) as u8
+    let values = [first as usize, second as usize];
+    text::fill(out, at, pattern, &values)
 }

@@ -1,9 +1,10 @@
-// A word of a keyed text, byte by byte: its size up to 3, its first two bytes, and the number it writes.
+// A word of a keyed text, byte by byte: its size, its first two bytes, and the number it writes.
 ghost use mathlib.Core.Path.{_≡_};
+ghost use Prim.Native.Nat.{_+_, _<_, _^_};
 ghost use Rattle.keying.specs.Inner.Machine.{no-word, number-with, word-with, word-mark};
 
 pub struct Word {
-    pub size: u8,
+    pub size: usize,
     pub high: u8,
     pub low: u8,
     // 65,536 for one that is too large, 65,537 for none
@@ -24,6 +25,7 @@ pub fn none() -> Word
 
 // The word with one byte more.
 pub fn with(word: Word, byte: u8) -> Word
+    requires { ⌜ word .size + 1 < 2 ^ 64 ⌝ }
     ensures { λ r. ⌜ r ≡ word-with word byte ⌝ }
 {
     let size = word.size;
@@ -32,7 +34,7 @@ pub fn with(word: Word, byte: u8) -> Word
         return Word {
             size: 1,
             high: byte,
-            low: word.low,
+            low: 0,
             number: number,
         };
     }
@@ -45,7 +47,7 @@ pub fn with(word: Word, byte: u8) -> Word
         };
     }
     Word {
-        size: 3,
+        size: size + 1,
         high: word.high,
         low: word.low,
         number: number,

@@ -17,23 +17,24 @@ use Rattle.schedule.proofs.Tests.{test, le-or-lt}
 use Rattle.schedule.proofs.Exist.{plan-has-latest}
 use Rattle.schedule.proofs.Early.{earliest-one}
 use Rattle.schedule.proofs.Renumber.{latest-along}
-use Rattle.planner.specs.declared.book.Book.{Book}
-use Rattle.planner.specs.declared.book.Request.{Request}
-use Rattle.planner.specs.declared.book.Request.the-variants.{Job, Before}
-use Rattle.planner.specs.declared.book.Applied.{Applied}
-use Rattle.planner.specs.Sets.{has}
-use Rattle.planner.specs.Told.{jobs-of, latest-of, row-in, Told}
-use Rattle.planner.specs.Unless.{passed}
-use Rattle.planner.specs.Outcome.{Planned, acceptance, Applies}
+use Rattle.planner.specs.declared.requests.Request.{Request}
+use Rattle.planner.specs.declared.requests.Request.the-variants.{Job, Before}
+use Rattle.sets.specs.Sets.{has}
+use Rattle.book.specs.Told.{Book, jobs-of, latest-of, row-in, Told}
+use Rattle.planner.specs.Requests.{Plannable, Applied, answered, Applies}
+use Rattle.planner.specs.declared.chains.Pending.{Pending}
 use Rattle.planner.specs.Inner.Chains.{Links, entries, joined-rows}
-use Rattle.planner.proofs.Bits.{only, with-has}
+use Rattle.sets.proofs.Bits.{only}
+use Rattle.sets.proofs.Range.{with-is}
 use Rattle.schedule.proofs.Same.{reads-one, plan-one}
-use Rattle.planner.proofs.Once.{applies-by}
-use Rattle.planner.proofs.Step.{Grows, size-is, job-grows, order-grows, followed-told, told-judged, Tight, with-latest, tight-judged}
-use Rattle.planner.proofs.Join.{entries-length, entries-at, rows-long, joined-links}
+use Rattle.refusal.proofs.Table.{then-table}
+use Rattle.planner.proofs.Outcome.{applies-by}
+use Rattle.planner.proofs.Growing.{Grows, size-is, job-grows, order-grows, followed-told, told-last, Tight, tight-last}
+use Rattle.book.proofs.Parts.{with-latest}
+use Rattle.planner.proofs.Pending.{entries-length, entries-at, rows-long, joined-links}
 
 -- ---- the latest times of a grown book, in a row of 64
-tight-exists : (L : Listed) (grown : Book) → Grows L grown → Planned L → (row : List ℕ) × Tight grown row
+tight-exists : (L : Listed) (grown : Book) → Grows L grown → Plannable L → (row : List ℕ) × Tight grown row
 tight-exists L grown g p = (
   entries 64 entry,
   record {
@@ -60,25 +61,25 @@ tight-exists L grown g p = (
 -- ---- rows joined by an order
 links-exist : (old : List ℕ) (a b : ℕ) → length old ≡ 64 → a < 64 → b < 64 → (new : List ℕ) × (length new ≡ 64) × Links a b old new
 links-exist old a b l la lb =
-    let more = bitOr (getD old a 0) (only a) in
-    (joined-rows old b more, rows-long old b more, joined-links old a b more l lb (λ x. with-has (getD old a 0) a x la))
+    let p : Pending = record { job = record { 0 = b }; more = bitOr (getD old a 0) (only a) } in
+    (joined-rows old p, rows-long old p, joined-links old a p l lb la (with-is (getD old a 0) a la))
 
 -- ---- the outcome
 pub record Accepts (k : Book) (q : Request) : Type 0 where
   pub next : Book
   pub value : ℕ
-  pub applies : Applies k q (acceptance next value)
+  pub applies : Applies k q (answered next 0 value)
 
 module _ (L : Listed) (k : Book) (t : Told k L) where
   -- a new job
-  pub job-accepted : (s d : ℕ) → k .size < 64 → s ≤ 4095 → d ≤ 4096 → s < d → Planned (with-job L s d) → Accepts k (Job s d)
+  pub job-accepted : (s d : ℕ) → k .size < 64 → s ≤ 4095 → d ≤ 4096 → s < d → Plannable (with-job L s d) → Accepts k (Job s d)
   job-accepted s d room low high less plan =
       record {
         next = with-latest grown (x .0);
         value = k .size;
         applies = applies-by k (Job s d) r (L, t) (λ M u.
-            passed (λ f. omega (arith, size-is M k u)) (passed (λ f. ⊎-elim (λ g. omega arith) (λ g. omega arith) f) (passed (λ f. omega arith)
-            (tight-judged (with-job M s d) k grown (k .size) _ (x .0) (size-is M k u) (job-grows M k u s d room low high) (x .1)))));
+            then-table ((λ f. omega (arith, size-is M k u)), ((λ f. ⊎-elim (λ g. omega arith) (λ g. omega arith) f), λ f. omega arith))
+            (tight-last (with-job M s d) k grown (k .size) _ (x .0) (size-is M k u) (job-grows M k u s d room low high) (x .1)));
       }
     where
       grown : Book
@@ -88,10 +89,10 @@ module _ (L : Listed) (k : Book) (t : Told k L) where
       x = tight-exists (with-job L s d) grown (job-grows L k t s d room low high) plan
 
       r : Applied
-      r = acceptance (with-latest grown (x .0)) (k .size)
+      r = answered (with-latest grown (x .0)) 0 (k .size)
 
   -- an order of two jobs
-  pub order-accepted : (a b : ℕ) → a < k .size → b < k .size → ((a ≡ b) ⊎ Chain (L .orders) b a → ⊥) → Planned (with-order L a b) → Accepts k (Before (record { 0 = a }) (record { 0 = b }))
+  pub order-accepted : (a b : ℕ) → a < k .size → b < k .size → ((a ≡ b) ⊎ Chain (L .orders) b a → ⊥) → Plannable (with-order L a b) → Accepts k (Before (record { 0 = a }) (record { 0 = b }))
   order-accepted a b la lb none plan = go (test (has (getD (k .before) b 0) a))
     where
       free : T (has (getD (k .before) a 0) b) → ⊥
@@ -120,11 +121,11 @@ module _ (L : Listed) (k : Book) (t : Told k L) where
         next = k;
         value = 0;
         applies = applies-by k _ _ (L, t) (λ M u.
-            passed (held M u) (passed (clear M u) (told-judged (with-order M a b) 0 k (acceptance k 0) refl (followed-told M k u a b la lb old))));
+            then-table (held M u, clear M u) (told-last (with-order M a b) 0 0 k k refl (followed-told M k u a b la lb old)));
       }
       go (inr new) = record {
         next = with-latest grown (x .0);
         value = 0;
         applies = applies-by k _ _ (L, t) (λ M u.
-            passed (held M u) (passed (clear M u) (tight-judged (with-order M a b) k grown 0 0 (x .0) refl (grows M u) (x .1))));
+            then-table (held M u, clear M u) (tight-last (with-order M a b) k grown 0 0 (x .0) refl (grows M u) (x .1)));
       }

@@ -14,10 +14,12 @@ use Rattle.schedule.specs.Listed.{ordered, Chain, link, join}
 use Rattle.schedule.proofs.Tests.{lt-by, or-left, or-right, or-split, eq→eqb}
 use Rattle.schedule.proofs.Search.{split-last}
 use Rattle.schedule.proofs.Chains.{chain-grows, chain-held, ordered-append}
-use Rattle.planner.specs.Sets.{has}
-use Rattle.planner.specs.Judged.{first-of, second-of, pairs-of, Looping}
+use Rattle.sets.specs.Sets.{has}
+use Rattle.planner.specs.List.{first-of, second-of, pairs-of, order-at}
+use Rattle.refusal.specs.Table.{Clear}
 use Rattle.planner.specs.Inner.List.{Held, Spells, TakesIn}
-use Rattle.planner.proofs.Step.{zeros, none-has}
+use Rattle.book.proofs.Empty.{zeros}
+use Rattle.sets.proofs.Bits.{empty-has}
 
 -- a chain that was, or one through a before b
 abbrev Through : (ℕ → ℕ → Type 0) → ℕ → ℕ → ℕ → ℕ → Type 0
@@ -62,7 +64,7 @@ no-chain (join s t) = no-chain s
 
 pub spells-none : (pairs : List ℕ) → Spells pairs 0 (replicate 64 0)
 unfolding pairs-of
-spells-none pairs = record { long = refl; chains = λ a b. ((λ t. absurd (rw (zeros 64 b, none-has a) at t)), (λ c. absurd (no-chain c))) }
+spells-none pairs = record { long = refl; chains = λ a b. ((λ t. absurd (rw (zeros 64 b, empty-has a) at t)), (λ c. absurd (no-chain c))) }
 
 pub spells-more : (pairs rows next : List ℕ) (n : ℕ) → Spells pairs n rows → TakesIn (first-of pairs n) (second-of pairs n) rows next → Spells pairs (n + 1) next
 spells-more pairs rows next n s f = rw add-one (record { long = ⊎-elim (λ u. rw (u .1) (s .long)) (λ u. u .0) f; chains = go f })
@@ -87,7 +89,8 @@ spells-more pairs rows next n s f = rw add-one (record { long = ⊎-elim (λ u. 
     )
 
 -- a before b closes a loop where they are one, or b is in the set before a
-pub looping-is : (pairs rows : List ℕ) (p a b : ℕ) → Spells pairs p rows → a ≡ first-of pairs p → b ≡ second-of pairs p → T (eqb a b || has (getD rows a 0) b) ↔ Looping pairs p
+pub looping-is : (pairs rows : List ℕ) (p a b : ℕ) → Spells pairs p rows → a ≡ first-of pairs p → b ≡ second-of pairs p →
+    T (eqb a b || has (getD rows a 0) b) ↔ ((first-of pairs p ≡ second-of pairs p) ⊎ Chain (pairs-of pairs p) (second-of pairs p) (first-of pairs p))
 looping-is pairs rows p a b s e f = rw (e, f) (
   (λ t. ⊎-elim (λ u. inl (eqb→eq x y u)) (λ u. inr (s .chains y x .0 u)) (or-split (eqb x y) (has (getD rows x 0) y) t)),
   (λ u. ⊎-elim (λ t. or-left (eqb x y) (has (getD rows x 0) y) (eq→eqb x y t)) (λ t. or-right (eqb x y) (has (getD rows x 0) y) (s .chains y x .1 t)) u),
@@ -115,7 +118,7 @@ pairs-held size pairs h (suc n) l a b t =
 pub spells-held : (size : ℕ) (pairs rows : List ℕ) (n : ℕ) → Held size pairs → n ≤ length pairs / 2 → Spells pairs n rows → (a b : ℕ) → T (has (getD rows b 0) a) → (a < size) × (b < size)
 spells-held size pairs rows n h l s a b t = chain-held (pairs-of pairs n) size (pairs-held size pairs h n l) (s .chains a b .0 t)
 
-pub pairs-loopless : (pairs : List ℕ) (n : ℕ) → ((p : ℕ) → p < n → Looping pairs p → ⊥) → (x : ℕ) → Chain (pairs-of pairs n) x x → ⊥
+pub pairs-loopless : (pairs : List ℕ) (n : ℕ) → ((p : ℕ) → p < n → Clear (order-at pairs p)) → (x : ℕ) → Chain (pairs-of pairs n) x x → ⊥
 unfolding pairs-of
 pairs-loopless pairs zero h x c = no-chain c
 pairs-loopless pairs (suc n) h x c =

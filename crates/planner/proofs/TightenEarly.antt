@@ -1,12 +1,12 @@
 -- Earliest times, job by job.
 -- Assumes nothing.
-use mathlib.Core.Bool.{Bool, true, false, not, _&&_}
+use mathlib.Core.Bool.{Bool, true, false}
 use mathlib.Core.List.{List}
 use mathlib.Core.Logic.{_⊎_, inl, inr, ⊎-elim}
 use mathlib.Core.Path.{_≡_, refl, sym, ap, subst, _∙_}
 use Prim.Native.Nat.{ℕ, zero, suc, _+_, _≤_, _<_}
 use native.Mathlib.Omega.{arith}
-use lib.Dec.{T, eqb, ltb, ltb→lt}
+use lib.Dec.{T, ltb, ltb→lt}
 use lib.ListN.{length, length-set, getD, set}
 use lib.Seq.{getD-set-same, getD-set-other}
 use borrow.Author.Count.{below-more}
@@ -19,12 +19,13 @@ use Rattle.schedule.specs.Times.{Raised, Earliest}
 use Rattle.schedule.proofs.Search.{Empty, Least, least}
 use Rattle.schedule.proofs.Counting.{count-lt, count-pos, count-find, count-bound}
 use Rattle.schedule.proofs.Rows.{Put, put-cases, put-all, put-same}
-use Rattle.planner.specs.Sets.{has}
-use Rattle.planner.specs.Told.{jobs-in, row-in}
-use Rattle.planner.specs.Inner.Early.{Free, After, Startable, Begins}
+use Rattle.sets.specs.Sets.{has, Without, Below}
+use Rattle.book.specs.Told.{jobs-in, row-in}
+use Rattle.planner.specs.Inner.Tighten.Early.{Unblocked, After, Startable, Begins}
 use Rattle.schedule.proofs.Tests.{test, le-by}
 use Rattle.schedule.proofs.Early.{raise, raise-earliest}
-use Rattle.planner.proofs.Bits.{walk-sub, walk-split, walk-one, has-some, count-cut}
+use Rattle.sets.proofs.Bits.{walk-sub, walk-split, walk-one, has-some, count-cut}
+use Rattle.sets.proofs.Range.{below-in}
 
 -- ---- after every job of a set: what is known while the set is walked
 pub record Reached (start set : ℕ) (early : List ℕ) (time rest : ℕ) : Type 0 where
@@ -37,7 +38,7 @@ pub reached-start : (start set : ℕ) (early : List ℕ) → Reached start set e
 reached-start start set early = record { from = omega arith; within = λ a t. t; later = λ a t. inl t; some = inl refl }
 
 module _ (start set : ℕ) (early : List ℕ) (time rest : ℕ) (r : Reached start set early time rest) where
-  module _ (k left : ℕ) (w : (j : ℕ) → has left j ≡ (has rest j && not (eqb j k))) (t : T (has rest k)) where
+  module _ (k left : ℕ) (w : Without rest k left) (t : T (has rest k)) where
     -- job k taken: the time stays, or is one above its time
     pub reached-same : getD early k 0 < time → Reached start set early time left
     reached-same h = record {
@@ -77,12 +78,12 @@ module _ (J : Jobs) (early : ℕ → ℕ) (e : Earliest J early) where
       }
 
   -- no job is later than the last start and a slot for each job
-  pub earliest-low : Closed J → Loopless J → ((i : ℕ) → i < J .size → J .start i ≤ 4095) → (i : ℕ) → i < J .size → early i ≤ 4095 + J .size
-  earliest-low closed loopless h i l =
+  pub earliest-low : Closed J → Loopless J → (last : ℕ) → ((i : ℕ) → i < J .size → J .start i ≤ last) → (i : ℕ) → i < J .size → early i ≤ last + J .size
+  earliest-low closed loopless last h i l =
       omega (
         arith,
         count-bound (J .size) (λ a. J .before a i),
-        e .least (λ j. 4095 + count (J .size) (λ a. J .before a j)) (record {
+        e .least (λ j. last + count (J .size) (λ a. J .before a j)) (record {
           above = λ j lj. omega (arith, h j lj);
           apart = λ a b la lb t.
               let less : count (J .size) (λ x. J .before x a) < count (J .size) (λ x. J .before x b) =
@@ -92,9 +93,9 @@ module _ (J : Jobs) (early : ℕ → ℕ) (e : Earliest J early) where
       )
 
   -- among the jobs to do, the first of all waits for none
-  pub some-free : (todo : ℕ) → 0 < count (J .size) (has todo) →
+  pub some-unblocked : (todo : ℕ) → 0 < count (J .size) (has todo) →
       (i : ℕ) × (i < J .size) × T (has todo i) × ((a : ℕ) → a < J .size → T (J .before a i) → T (has todo a) → ⊥)
-  some-free todo h = go (least (J .size) (has todo) early)
+  some-unblocked todo h = go (least (J .size) (has todo) early)
     where
       go : Empty (J .size) (has todo) ⊎ Least (J .size) (has todo) early →
           (i : ℕ) × (i < J .size) × T (has todo i) × ((a : ℕ) → a < J .size → T (J .before a i) → T (has todo a) → ⊥)
@@ -123,7 +124,7 @@ earliest-of size start before = raise (jobs-in size start before) size
 pub record Making (size : ℕ) (start before early order : List ℕ) (todo k : ℕ) : Type 0 where
   pub in-row : k ≤ size
   pub lengths : (length early ≡ 64) × (length order ≡ 64)
-  pub held : (j : ℕ) → T (has todo j) → j < size
+  pub inside : (j : ℕ) → T (has todo j) → j < size
   pub left : count 64 (has todo) + k ≡ size
   pub done : (i : ℕ) → i < size → T (has todo i) ⊎ (getD early i 0 ≡ earliest-of size start before i)
   pub jobs : (l : ℕ) → l < k → getD order l 0 < size
@@ -138,34 +139,37 @@ module _ {size : ℕ} {start before : List ℕ} (s : Startable size start before
   e : Earliest J E
   e = raise-earliest J (s .closed) (s .loopless)
 
-  pub making-start : (early order : List ℕ) (todo : ℕ) → length early ≡ 64 → length order ≡ 64 → ((j : ℕ) → has todo j ≡ ltb j size) → Making size start before early order todo 0
-  making-start early order todo le lo w = record {
+  pub making-start : (early order : List ℕ) (todo : ℕ) → length early ≡ 64 → length order ≡ 64 → Below size todo → Making size start before early order todo 0
+  making-start early order todo le lo b = record {
     in-row = omega arith;
     lengths = (le, lo);
-    held = λ j t. ltb→lt j size (rw (w j) at t);
+    inside = λ j t. ltb→lt j size (rw (w j) at t);
     left = omega (arith, count-cut size 64 (has todo) (λ j. true) (s .few) (λ j l. w j ∙ lt-ltb j size l) (λ j g. w j ∙ le-ltb j size g), count-all size);
     done = λ i l. inl (subst T (sym (w i ∙ lt-ltb i size l)) tt);
     jobs = λ l x. absurd (omega arith);
   }
+    where
+      w : (j : ℕ) → has todo j ≡ ltb j size
+      w = below-in size todo (s .few) b
 
   module _ {early order : List ℕ} {todo k : ℕ} (q : Making size start before early order todo k) where
-    pub making-free : k < size → (i : ℕ) × Free i (getD before i 0) todo
-    making-free l =
+    pub making-unblocked : k < size → (i : ℕ) × Unblocked i (getD before i 0) todo
+    making-unblocked l =
         let n : count 64 (has todo) ≡ count size (has todo) = count-cut size 64 (has todo) (has todo) (s .few) (λ j x. refl)
-        (λ j g. ⊎-elim (λ t. absurd (omega (arith, q .held j t))) (λ f. none (has todo j) f) (test (has todo j))) in
-        let x = some-free J E e todo (omega (arith, q .left)) in
-        (x .0, record { member = x .2; ready = λ a t u. x .3 a (s .held a (x .0) t .0) t u })
+        (λ j g. ⊎-elim (λ t. absurd (omega (arith, q .inside j t))) (λ f. none (has todo j) f) (test (has todo j))) in
+        let x = some-unblocked J E e todo (omega (arith, q .left)) in
+        (x .0, record { member = x .2; ready = λ a t u. x .3 a (s .inside a (x .0) t .0) t u })
       where
         none : (b : Bool) → (T b → ⊥) → b ≡ false
         none true f = absurd (f tt)
         none false f = refl
 
-    module _ {i : ℕ} (f : Free i (getD before i 0) todo) where
+    module _ {i : ℕ} (f : Unblocked i (getD before i 0) todo) where
       ready : (a : ℕ) → T (has (getD before i 0) a) → (a < size) × (getD early a 0 ≡ E a)
-      ready a t = let l = s .held a i t .0 in (l, ⊎-elim (λ u. absurd (f .ready a t u)) (λ x. x) (q .done a l))
+      ready a t = let l = s .inside a i t .0 in (l, ⊎-elim (λ u. absurd (f .ready a t u)) (λ x. x) (q .done a l))
 
       li : i < size
-      li = q .held i (f .member)
+      li = q .inside i (f .member)
 
       module _ {time : ℕ} (a : After (getD start i 0) (getD before i 0) early time) where
         timed : time ≡ E i
@@ -175,13 +179,13 @@ module _ {size : ℕ} {start before : List ℕ} (s : Startable size start before
 
         -- the time fits in 16 digits
         pub making-time : time < 65535
-        making-time = omega (arith, timed, s .few, earliest-low J E e (s .closed) (s .loopless) (s .starts) i li)
+        making-time = omega (arith, timed, s .few, earliest-low J E e (s .closed) (s .loopless) 65470 (s .starts) i li)
 
-        pub making-next : k < size → (more : ℕ) → ((j : ℕ) → has more j ≡ (has todo j && not (eqb j i))) → Making size start before (set early i time) (set order k i) more (k + 1)
+        pub making-next : k < size → (more : ℕ) → Without todo i more → Making size start before (set early i time) (set order k i) more (k + 1)
         making-next l more w = record {
           in-row = omega arith;
           lengths = (simp length-set (q .lengths .0), simp length-set (q .lengths .1));
-          held = λ j t. q .held j (walk-sub todo more i w j t);
+          inside = λ j t. q .inside j (walk-sub todo more i w j t);
           left = omega (arith, q .left, walk-one todo more i w (omega (arith, li, s .few)) (f .member));
           done = λ j lj. ⊎-elim (λ t. ⊎-elim (λ x. inr (rw x here)) (λ x. inl x) (walk-split todo more i w j t))
               (λ x. ⊎-elim (λ t. ⊎-elim (λ y. inr (rw y here)) (λ y. inl y) (walk-split todo more i w j t)) (λ g. inr (getD-set-other early i j time 0 (λ y. g (rw y (f .member))) ∙ x)) (test (has todo j))) (q .done j lj);
@@ -196,7 +200,7 @@ module _ {size : ℕ} {start before : List ℕ} (s : Startable size start before
     pub making-end : size ≤ k → Begins size start before early order
     making-end h = record {
       earliest = earliest-same J E (row-in early) all e;
-      low = λ i l. omega (arith, all i l, s .few, earliest-low J E e (s .closed) (s .loopless) (s .starts) i l);
+      low = λ i l. omega (arith, all i l, s .few, earliest-low J E e (s .closed) (s .loopless) 65470 (s .starts) i l);
       jobs = λ l x. q .jobs l (omega arith);
     }
       where

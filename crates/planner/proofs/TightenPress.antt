@@ -14,11 +14,11 @@ use Rattle.schedule.specs.Count.{count}
 use Rattle.schedule.specs.Jobs.{Jobs}
 use Rattle.schedule.specs.Times.{N, presses}
 use Rattle.schedule.proofs.Tests.{le-or-lt}
+use Rattle.schedule.proofs.Round.{room-falls}
 use Rattle.schedule.proofs.Press.{N-mono, N-bound}
-use Rattle.planner.specs.Sets.{has}
-use Rattle.planner.specs.Inner.Sets.{pressed}
-use Rattle.planner.specs.Inner.Lower.{At, Pressure}
-use Rattle.planner.proofs.Bits.{count-cut}
+use Rattle.sets.specs.Sets.{has}
+use Rattle.planner.specs.Inner.Tighten.Rule.{pressed, At, Pressure}
+use Rattle.sets.proofs.Bits.{count-cut}
 
 turned : (x y n : Bool) → ((x && y) && n) ≡ ((n && x) && y)
 turned true true true = refl
@@ -33,7 +33,7 @@ pub same-leb : (a b x : ℕ) → (a ≤ x → b ≤ x) → (b ≤ x → a ≤ x)
 same-leb a b x f g = ⊎-elim (λ h. le-leb a x h ∙ sym (le-leb b x (f h)))
     (λ h. lt-leb a x h ∙ sym (⊎-elim (λ y. absurd (omega (arith, g y))) (λ y. lt-leb b x y) (le-or-lt b x))) (le-or-lt a x)
 
-module _ {J : Jobs} {early row : ℕ → ℕ} {i held d due followers from : ℕ} {times late : List ℕ} (a : At J early row i held d due followers from times late) where
+module _ (m : ℕ) {J : Jobs} {early row : ℕ → ℕ} {i held d due followers from : ℕ} {times late : List ℕ} (a : At J early row i held d due followers from times late) where
   abbrev at : ℕ → ℕ
   at k = getD times k 0
 
@@ -69,7 +69,7 @@ module _ {J : Jobs} {early row : ℕ → ℕ} {i held d due followers from : ℕ
     pub entry : k < 65
     pub reached : early i ≤ at k
     pub below : (j : ℕ) → j < J .size → early j < at k → early j < held
-    pub tried : (j : ℕ) → j < J .size → early i ≤ early j → early j < at k → Ns (early j) < 2 * (d - early j)
+    pub tried : (j : ℕ) → j < J .size → early i ≤ early j → early j < at k → Ns (early j) < m * (d - early j)
     pub bound : Ns (at k) ≤ most
 
   module _ (within : from < 65) (begun : at from < held) (by : held ≤ d) (fits : d < 65536) where
@@ -88,9 +88,9 @@ module _ {J : Jobs} {early row : ℕ → ℕ} {i held d due followers from : ℕ
         count-here = press-N k (at k) (p .entry) (λ j l. refl)
 
         step : (k < 64) × (at k < at (k + 1))
-        step = a .levels .steps k (p .entry) (omega arith)
+        step = a .levels .rising k (p .entry) (omega arith)
 
-        passed-next : (least : ℕ) → Ns (at k) ≤ least → least < 2 * (d - at k) → Passed (k + 1) least
+        passed-next : (least : ℕ) → Ns (at k) ≤ least → least < m * (d - at k) → Passed (k + 1) least
         passed-next least g room =
             let back : (j : ℕ) → j < J .size → early j < at (k + 1) → early j ≤ at k =
             λ j l x. ⊎-elim (λ y. y) (λ y. absurd (omega (arith, a .levels .next k j (step .0) l y))) (le-or-lt (early j) (at k)) in
@@ -98,29 +98,29 @@ module _ {J : Jobs} {early row : ℕ → ℕ} {i held d due followers from : ℕ
               entry = omega (arith, step .0);
               reached = omega (arith, p .reached, step .1);
               below = λ j l x. omega (arith, back j l x);
-              tried = λ j l x y. ⊎-elim (λ z. let e : early j ≡ at k = omega (arith, back j l y) in let n : Ns (early j) ≡ Ns (at k) = ap Ns e in omega arith)
+              tried = λ j l x y. ⊎-elim (λ z. let e : early j ≡ at k = omega (arith, back j l y) in let n : Ns (early j) ≡ Ns (at k) = ap Ns e in let r : m * (d - early j) ≡ m * (d - at k) = ap (λ (x : ℕ). m * (d - x)) e in omega arith)
                   (λ z. p .tried j l x z) (le-or-lt (at k) (early j));
               bound = omega (arith, N-falls (at k) (at (k + 1)) (omega (arith, step .1)));
             }
 
-        pub passed-kept : most < 2 * (d - at k) → Passed (k + 1) most
+        pub passed-kept : most < m * (d - at k) → Passed (k + 1) most
         passed-kept = passed-next most (p .bound)
 
-        pub passed-counted : (n : ℕ) → n ≡ count 64 (pressed due followers (getD late k 0) i) → n < 2 * (d - at k) → Passed (k + 1) n
+        pub passed-counted : (n : ℕ) → n ≡ count 64 (pressed due followers (getD late k 0) i) → n < m * (d - at k) → Passed (k + 1) n
         passed-counted n c = passed-next n (omega (arith, count-here))
 
-        pub passed-found : (n : ℕ) → n ≡ count 64 (pressed due followers (getD late k 0) i) → 2 * (d - at k) ≤ n → Pressure J early row i d n
+        pub passed-found : (n : ℕ) → n ≡ count 64 (pressed due followers (getD late k 0) i) → m * (d - at k) ≤ n → Pressure m J early row i d n
         passed-found n c full = let e : n ≡ Ns (at k) = c ∙ count-here in record {
           some = inr (at k, record { job = a .job; from = p .reached; till = omega (arith, a .holds); by = omega (arith, a .holds) }, omega arith, sym e);
           own = λ x. omega (arith, N-falls (at k) (row i) (omega (arith, a .holds)));
           other = λ j l x y z. ⊎-elim (λ u. omega (arith, N-falls (at k) (early j) u)) (λ u. absurd (omega (arith, p .tried j l x u))) (le-or-lt (at k) (early j));
         }
 
-        pub passed-none : (n : ℕ) → n ≡ count 64 (pressed due followers (getD late k 0) i) → n < 2 * (d - held) → Pressure J early row i d 0
+        pub passed-none : (n : ℕ) → n ≡ count 64 (pressed due followers (getD late k 0) i) → n < m * (d - held) → Pressure m J early row i d 0
         passed-none n c few = let e : n ≡ Ns (at k) = c ∙ count-here in record {
           some = inl refl;
-          own = λ x. absurd (omega (arith, N-falls (at k) (row i) (omega (arith, a .holds)), a .holds));
-          other = λ j l x y z. ⊎-elim (λ u. absurd (omega (arith, N-falls (at k) (early j) u, a .holds))) (λ u. absurd (omega (arith, p .tried j l x u))) (le-or-lt (at k) (early j));
+          own = λ x. absurd (omega (arith, N-falls (at k) (row i) (omega (arith, a .holds)), room-falls m d (row i) held (omega (arith, a .holds))));
+          other = λ j l x y z. ⊎-elim (λ u. absurd (omega (arith, N-falls (at k) (early j) u, room-falls m d (early j) held (omega (arith, a .holds))))) (λ u. absurd (omega (arith, p .tried j l x u))) (le-or-lt (at k) (early j));
         }
 
       module _ (h : held ≤ at k) where
@@ -131,16 +131,16 @@ module _ {J : Jobs} {early row : ℕ → ℕ} {i held d due followers from : ℕ
         at-held : (j : ℕ) → at k ≤ early j → early j ≤ row i → Ns (early j) ≡ Ns held
         at-held j x y = ap Ns (let e : early j ≡ held = omega (arith, a .holds) in e)
 
-        pub passed-own : (n : ℕ) → n ≡ count 64 (pressed due followers (getD late k 0) i) → 2 * (d - held) ≤ n → Pressure J early row i d n
+        pub passed-own : (n : ℕ) → n ≡ count 64 (pressed due followers (getD late k 0) i) → m * (d - held) ≤ n → Pressure m J early row i d n
         passed-own n c full = let e : n ≡ Ns held = c ∙ count-own in record {
           some = inr (held, record { job = a .job; from = omega (arith, a .begins); till = omega (arith, a .holds); by = omega (arith, a .holds) }, omega arith, sym e);
           own = λ x. omega (arith, ap Ns (a .holds));
           other = λ j l x y z. ⊎-elim (λ u. omega (arith, at-held j u y)) (λ u. absurd (omega (arith, p .tried j l x u))) (le-or-lt (at k) (early j));
         }
 
-        pub passed-over : (n : ℕ) → n ≡ count 64 (pressed due followers (getD late k 0) i) → n < 2 * (d - held) → Pressure J early row i d 0
+        pub passed-over : (n : ℕ) → n ≡ count 64 (pressed due followers (getD late k 0) i) → n < m * (d - held) → Pressure m J early row i d 0
         passed-over n c few = let e : n ≡ Ns held = c ∙ count-own in record {
           some = inl refl;
-          own = λ x. absurd (omega (arith, ap Ns (a .holds), a .holds));
-          other = λ j l x y z. ⊎-elim (λ u. absurd (omega (arith, at-held j u y, a .holds, let q : early j ≡ held = omega (arith, a .holds) in q))) (λ u. absurd (omega (arith, p .tried j l x u))) (le-or-lt (at k) (early j));
+          own = λ x. absurd (omega (arith, ap Ns (a .holds), room-falls m d (row i) held (omega (arith, a .holds))));
+          other = λ j l x y z. ⊎-elim (λ u. absurd (omega (arith, at-held j u y, room-falls m d (early j) held (omega (arith, a .holds))))) (λ u. absurd (omega (arith, p .tried j l x u))) (le-or-lt (at k) (early j));
         }

@@ -1,6 +1,6 @@
 -- A row sinks, job by job and d by d.
 -- Assumes nothing.
-use mathlib.Core.Bool.{Bool, true, false, not, _&&_, _||_}
+use mathlib.Core.Bool.{Bool, true, false, _&&_, _||_}
 use mathlib.Core.List.{List}
 use mathlib.Core.Logic.{_⊎_, inl, inr, ⊎-elim}
 use mathlib.Core.Path.{_≡_, refl, sym, ap, ap₂, subst, _∙_}
@@ -20,13 +20,14 @@ use Rattle.schedule.proofs.Tests.{test, and-pair, and-fst, and-snd, or-right, l
 use Rattle.schedule.proofs.Loop.{put-set}
 use Rattle.schedule.proofs.Few.{Few, own, other, consistent-few}
 use Rattle.planner.specs.declared.tighten.Due.{Due}
-use Rattle.planner.specs.declared.tighten.Moved.the-variants.{Jobs as Those}
-use Rattle.planner.specs.Sets.{has}
-use Rattle.planner.specs.Told.{jobs-in, row-in}
-use Rattle.planner.specs.Inner.Tables.{Follows}
-use Rattle.planner.specs.Inner.Tighten.{Tightens}
-use Rattle.planner.specs.Inner.Lower.{DueBy, Clear, Eased, Ruled, Sunk, Fell, Moves, AtD, Swept, Settles}
-use Rattle.planner.proofs.Bits.{and-has, has-some, walk-split}
+use Rattle.planner.specs.declared.tighten.Moved.the-variants.{Those}
+use Rattle.sets.specs.Sets.{has, Without}
+use Rattle.book.specs.Told.{jobs-in, row-in}
+use Rattle.planner.specs.Inner.Tighten.Tables.{Follows}
+use Rattle.planner.specs.Inner.Tighten.{Tightens, Fell, Moves, AtD, Swept, Settles}
+use Rattle.planner.specs.Inner.Tighten.Sink.{Eased, Sunk}
+use Rattle.planner.specs.Inner.Tighten.Rule.{DueBy, Obeys, Ruled}
+use Rattle.sets.proofs.Bits.{and-has, has-some, walk-split}
 use Rattle.schedule.proofs.Same.{latest-any}
 use Rattle.planner.proofs.TightenDue.{DueBelow}
 use Rattle.planner.proofs.TightenLower.{bound-join, bound-same, bound-none}
@@ -35,30 +36,30 @@ holds : (b : Bool) → T b → b ≡ true
 holds true t = refl
 
 -- ---- a row as it is, and one after another
-pub sunk-same : (J : Jobs) (early : ℕ → ℕ) (row : List ℕ) → Sunk J early row row
-sunk-same J early row = record { rest = λ i g. refl; bound = record { beneath = λ i l. omega arith; plans = λ slot v k. k; rows = λ low c x. x } }
+pub sunk-same : (m : ℕ) (J : Jobs) (early : ℕ → ℕ) (row : List ℕ) → Sunk m J early row row
+sunk-same m J early row = record { rest = λ i g. refl; bound = record { beneath = λ i l. omega arith; plans = λ slot v k. k; rows = λ low c x. x } }
 
-module _ {J : Jobs} {early : ℕ → ℕ} {first row : List ℕ} (q : Sunk J early first row) where
-  pub sunk-join : {next : List ℕ} → Sunk J early row next → Sunk J early first next
-  sunk-join {next = next} r = record { rest = λ i g. r .rest i g ∙ q .rest i g; bound = bound-join J early (row-in first) (row-in row) (row-in next) (q .bound) (r .bound) }
+module _ {m : ℕ} {J : Jobs} {early : ℕ → ℕ} {first row : List ℕ} (q : Sunk m J early first row) where
+  pub sunk-join : {next : List ℕ} → Sunk m J early row next → Sunk m J early first next
+  sunk-join {next = next} r = record { rest = λ i g. r .rest i g ∙ q .rest i g; bound = bound-join m J early (row-in first) (row-in row) (row-in next) (q .bound) (r .bound) }
 
-  pub none-join : (HasPlan 2 J (row-in row) → ⊥) → HasPlan 2 J (row-in first) → ⊥
+  pub none-join : (HasPlan m J (row-in row) → ⊥) → HasPlan m J (row-in first) → ⊥
   none-join f p = f (p .0, p .1, q .bound .plans (p .0) (p .1) (p .2))
 
-  pub fell-then : {next last : List ℕ} → Fell J row next → Sunk J early next last → Fell J first last
+  pub fell-then : {next last : List ℕ} → Fell J row next → Sunk m J early next last → Fell J first last
   fell-then f r = (f .0, f .1, omega (arith, f .2, q .bound .beneath (f .0) (f .1), r .bound .beneath (f .0) (f .1)))
 
   -- one job's time stored
-  module _ {i time : ℕ} (few : J .size ≤ 64) (long : length row ≡ 64) (l : i < J .size) (e : Eased J early (row-in row) i time) where
-    pub sunk-put : Sunk J early first (set row i time)
+  module _ {i time : ℕ} (few : J .size ≤ 64) (long : length row ≡ 64) (l : i < J .size) (e : Eased m J early (row-in row) i time) where
+    pub sunk-put : Sunk m J early first (set row i time)
     sunk-put = record {
       rest = λ j g. getD-set-other row i j time 0 (λ x. omega arith) ∙ q .rest j g;
-      bound = bound-join J early (row-in first) (row-in row) (row-in (set row i time)) (q .bound)
-          (bound-same J early (row-in row) (put (row-in row) i time) (row-in (set row i time)) (λ j lj. put-set row i time 0 j (omega arith)) (e .bound));
+      bound = bound-join m J early (row-in first) (row-in row) (row-in (set row i time)) (q .bound)
+          (bound-same m J early (row-in row) (put (row-in row) i time) (row-in (set row i time)) (λ j lj. put-set row i time 0 j (omega arith)) (e .bound));
     }
 
-    pub sunk-none : time ≡ 0 → HasPlan 2 J (row-in first) → ⊥
-    sunk-none z = bound-none J early (row-in first) (row-in (set row i time)) (sunk-put .bound) i l (getD-set-same row i time 0 (omega arith) ∙ z)
+    pub sunk-none : time ≡ 0 → HasPlan m J (row-in first) → ⊥
+    sunk-none z = bound-none m J early (row-in first) (row-in (set row i time)) (sunk-put .bound) i l (getD-set-same row i time 0 (omega arith) ∙ z)
 
 -- a time stored keeps a row below d
 pub stored-low : (row : List ℕ) (i time d : ℕ) → i < length row → time ≤ d → (j : ℕ) → getD row j 0 ≤ d → getD (set row i time) j 0 ≤ d
@@ -73,10 +74,10 @@ followed J followers i moved l f j t =
     (ltb→lt j (J .size) (and-fst (ltb j (J .size)) (J .before i j) x), and-snd (ltb j (J .size)) (J .before i j) x)
 
 -- ---- the rule at one d: the jobs of `rest` are still to do
-pub record Lowering (J : Jobs) (early : ℕ → ℕ) (first row : List ℕ) (d due moved rest : ℕ) : Type 0 where
+pub record Lowering (m : ℕ) (J : Jobs) (early : ℕ → ℕ) (first row : List ℕ) (d due moved rest : ℕ) : Type 0 where
   pub soon : DueBy (J .size) (row-in row) d due
-  pub sunk : Sunk J early first row
-  pub still : moved ≡ 0 → (row ≡ first) × ((j : ℕ) → T (has due j) → T (has rest j) ⊎ Clear J early (row-in first) j d)
+  pub sunk : Sunk m J early first row
+  pub still : moved ≡ 0 → (row ≡ first) × ((j : ℕ) → T (has due j) → T (has rest j) ⊎ Obeys m J early (row-in first) j d)
   pub fell : (moved ≡ 0 → ⊥) → Fell J first row
 
 -- a job that is due is a job, and its time is at most d
@@ -85,19 +86,19 @@ due-job size row d due s i t =
     let x : T (ltb i size && leb (row i) d) = rw (s i) at t in
     (ltb→lt i size (and-fst (ltb i size) (leb (row i) d) x), leb→le (row i) d (and-snd (ltb i size) (leb (row i) d) x))
 
-pub lowering-start : (J : Jobs) (early : ℕ → ℕ) (row : List ℕ) (d due : ℕ) → DueBy (J .size) (row-in row) d due → Lowering J early row row d due 0 due
-lowering-start J early row d due s = record { soon = s; sunk = sunk-same J early row; still = λ z. (refl, (λ j t. inl t)); fell = λ f. absurd (f refl) }
+pub lowering-start : (m : ℕ) (J : Jobs) (early : ℕ → ℕ) (row : List ℕ) (d due : ℕ) → DueBy (J .size) (row-in row) d due → Lowering m J early row row d due 0 due
+lowering-start m J early row d due s = record { soon = s; sunk = sunk-same m J early row; still = λ z. (refl, (λ j t. inl t)); fell = λ f. absurd (f refl) }
 
-module _ {J : Jobs} {early : ℕ → ℕ} {first row : List ℕ} {d due moved rest : ℕ} (few : J .size ≤ 64) (long : length row ≡ 64) (q : Lowering J early first row d due moved rest) where
-  module _ {i time : ℕ} (left : ℕ) (in-due : T (has due i)) (w : (j : ℕ) → has left j ≡ (has rest j && not (eqb j i)))
-      (r : Ruled J early (row-in row) i d time) (some : time ≡ 0 → ⊥) where
+module _ {m : ℕ} {J : Jobs} {early : ℕ → ℕ} {first row : List ℕ} {d due moved rest : ℕ} (few : J .size ≤ 64) (long : length row ≡ 64) (q : Lowering m J early first row d due moved rest) where
+  module _ {i time : ℕ} (left : ℕ) (in-due : T (has due i)) (w : Without rest i left)
+      (r : Ruled m J early (row-in row) i d time) (some : time ≡ 0 → ⊥) where
     job : (i < J .size) × (getD row i 0 ≤ d)
     job = due-job (J .size) (row-in row) d due (q .soon) i in-due
 
     stored : getD (set row i time) i 0 ≡ time
     stored = getD-set-same row i time 0 (omega (arith, job .0))
 
-    pub lowering-moved : (more : ℕ) → ((j : ℕ) → has more j ≡ (has moved j || eqb j i)) → time < getD row i 0 → Lowering J early first (set row i time) d due more left
+    pub lowering-moved : (more : ℕ) → ((j : ℕ) → has more j ≡ (has moved j || eqb j i)) → time < getD row i 0 → Lowering m J early first (set row i time) d due more left
     lowering-moved more wm h = record {
       soon = λ j. ⊎-elim (λ x. at-i j (eqb→eq j i x)) (λ f. q .soon j ∙ ap (λ (n : ℕ). ltb j (J .size) && leb n d) (sym (getD-set-other row i j time 0 (λ x. f (subst (λ (n : ℕ). T (eqb j n)) x (eqb-refl j)))))) (test (eqb j i));
       sunk = sunk-put (q .sunk) few long (job .0) (r .eased);
@@ -108,14 +109,14 @@ module _ {J : Jobs} {early : ℕ → ℕ} {first row : List ℕ} {d due moved re
         at-i : (j : ℕ) → j ≡ i → has due j ≡ (ltb j (J .size) && leb (getD (set row i time) j 0) d)
         at-i j x = rw x (holds (has due i) in-due ∙ sym (ap₂ (λ (a b : Bool). a && b) (lt-ltb i (J .size) (job .0)) (le-leb (getD (set row i time) i 0) d (omega (arith, stored, job .1)))))
 
-    pub lowering-kept : getD row i 0 ≤ time → Lowering J early first (set row i time) d due moved left
-    lowering-kept h = subst (λ (x : List ℕ). Lowering J early first x d due moved left) (sym as-was) (record {
+    pub lowering-kept : getD row i 0 ≤ time → Lowering m J early first (set row i time) d due moved left
+    lowering-kept h = subst (λ (x : List ℕ). Lowering m J early first x d due moved left) (sym as-was) (record {
       soon = q .soon;
       sunk = q .sunk;
       still = λ z. (
         q .still z .0,
         (λ j t. ⊎-elim
-            (λ u. ⊎-elim (λ x. inr (rw x (subst (λ (y : List ℕ). Clear J early (row-in y) i d) (q .still z .0) (r .clear some same)))) (λ x. inl x) (walk-split rest left i w j u))
+            (λ u. ⊎-elim (λ x. inr (rw x (subst (λ (y : List ℕ). Obeys m J early (row-in y) i d) (q .still z .0) (r .obeys some same)))) (λ x. inl x) (walk-split rest left i w j u))
             (λ u. inr u) (q .still z .1 j t)),
       );
       fell = q .fell;
@@ -127,7 +128,7 @@ module _ {J : Jobs} {early : ℕ → ℕ} {first row : List ℕ} {d due moved re
         as-was : set row i time ≡ row
         as-was = ap (λ (n : ℕ). set row i n) same ∙ set-getD row i 0
 
-  pub lowering-moves : DueBy (J .size) (row-in first) d due → rest ≡ 0 → Moves J early first row (AtD J early (row-in first) d) (Those moved)
+  pub lowering-moves : DueBy (J .size) (row-in first) d due → rest ≡ 0 → Moves m J early first row (AtD m J early (row-in first) d) (Those moved)
   lowering-moves s e = (
     q .sunk,
     (λ z. (
@@ -139,47 +140,63 @@ module _ {J : Jobs} {early : ℕ → ℕ} {first row : List ℕ} {d due moved re
   )
 
 -- ---- a pass: every d from the limit on is done
-pub record Passing (J : Jobs) (early : ℕ → ℕ) (first row : List ℕ) (moved limit : ℕ) : Type 0 where
-  pub sunk : Sunk J early first row
-  pub still : moved ≡ 0 → (row ≡ first) × ((k : ℕ) → k < J .size → limit ≤ getD first k 0 → AtD J early (row-in first) (getD first k 0))
+pub record Passing (m : ℕ) (J : Jobs) (early : ℕ → ℕ) (first row : List ℕ) (moved limit : ℕ) : Type 0 where
+  pub sunk : Sunk m J early first row
+  pub still : moved ≡ 0 → (row ≡ first) × ((k : ℕ) → k < J .size → limit ≤ getD first k 0 → getD first k 0 < 65536 → AtD m J early (row-in first) (getD first k 0))
   pub fell : (moved ≡ 0 → ⊥) → Fell J first row
+  pub fresh : 65536 ≤ limit → row ≡ first
+  pub low : limit < 65536 → (k : ℕ) → k < J .size → getD first k 0 < 65536
 
-pub passing-start : (J : Jobs) (early : ℕ → ℕ) (row : List ℕ) (limit : ℕ) → ((i : ℕ) → i < J .size → getD row i 0 < limit) → Passing J early row row 0 limit
-passing-start J early row limit h = record { sunk = sunk-same J early row; still = λ z. (refl, (λ k l g. absurd (omega (arith, h k l)))); fell = λ f. absurd (f refl) }
+pub passing-start : (m : ℕ) (J : Jobs) (early : ℕ → ℕ) (row : List ℕ) → Passing m J early row row 0 65536
+passing-start m J early row = record {
+  sunk = sunk-same m J early row;
+  still = λ z. (refl, (λ k l g h. absurd (omega arith)));
+  fell = λ f. absurd (f refl);
+  fresh = λ h. refl;
+  low = λ h. absurd (omega arith);
+}
 
-module _ {J : Jobs} {early : ℕ → ℕ} {first row : List ℕ} {moved limit : ℕ} (q : Passing J early first row moved limit) {r : Due} (b : DueBelow limit (J .size) row r) where
+module _ {m : ℕ} {J : Jobs} {early : ℕ → ℕ} {first row : List ℕ} {moved limit : ℕ} (q : Passing m J early first row moved limit) {r : Due} (b : DueBelow limit (J .size) row r) where
   in-set : (k : ℕ) → k < J .size → getD row k 0 < limit → T (has (r .jobs) k)
   in-set k l h = rw (b .jobs k) (and-pair (ltb k (J .size)) (ltb (getD row k 0) limit) (lt→ltb k (J .size) l) (lt→ltb (getD row k 0) limit h))
 
+  -- the first look at the row finds every time in 16 bits
+  passing-low : (k : ℕ) → k < J .size → getD first k 0 < 65536
+  passing-low k l = ⊎-elim (λ h. subst (λ (x : List ℕ). getD x k 0 < 65536) (q .fresh h) (b .low h k l)) (λ h. q .low h k l) (le-or-lt 65536 limit)
+
   -- nothing moved at d
-  pub passing-still : {next : List ℕ} → next ≡ row → AtD J early (row-in row) (r .d) → Passing J early first next moved (r .d)
-  passing-still e clear = subst (λ (x : List ℕ). Passing J early first x moved (r .d)) (sym e) (record {
+  pub passing-still : {next : List ℕ} → r .d < 65536 → next ≡ row → AtD m J early (row-in row) (r .d) → Passing m J early first next moved (r .d)
+  passing-still small e obeyed = subst (λ (x : List ℕ). Passing m J early first x moved (r .d)) (sym e) (record {
     sunk = q .sunk;
-    still = λ z. (q .still z .0, (λ k l h. ⊎-elim (λ g. q .still z .1 k l g) (λ g. here z k l h g) (le-or-lt limit (getD first k 0))));
+    still = λ z. (q .still z .0, (λ k l h x. ⊎-elim (λ g. q .still z .1 k l g x) (λ g. here z k l h g) (le-or-lt limit (getD first k 0))));
     fell = q .fell;
+    fresh = λ h. absurd (omega arith);
+    low = λ h. passing-low;
   })
     where
-      here : moved ≡ 0 → (k : ℕ) → k < J .size → r .d ≤ getD first k 0 → getD first k 0 < limit → AtD J early (row-in first) (getD first k 0)
+      here : moved ≡ 0 → (k : ℕ) → k < J .size → r .d ≤ getD first k 0 → getD first k 0 < limit → AtD m J early (row-in first) (getD first k 0)
       here z k l h g =
           let same : getD row k 0 ≡ getD first k 0 = ap (λ (x : List ℕ). getD x k 0) (q .still z .0) in
           let top : getD first k 0 ≡ r .d = le-antisymm (omega (arith, same, b .top k (in-set k l (omega (arith, same))))) h in
-          subst (λ (n : ℕ). AtD J early (row-in first) n) (sym top) (subst (λ (x : List ℕ). AtD J early (row-in x) (r .d)) (q .still z .0) clear)
+          subst (λ (n : ℕ). AtD m J early (row-in first) n) (sym top) (subst (λ (x : List ℕ). AtD m J early (row-in x) (r .d)) (q .still z .0) obeyed)
 
   -- some jobs moved, and those before them followed
-  pub passing-moved : {low next : List ℕ} {all : ℕ} → (all ≡ 0 → ⊥) → Sunk J early row low → Fell J row low → Sunk J early low next → Passing J early first next all (r .d)
-  passing-moved some x f y = record {
+  pub passing-moved : {low next : List ℕ} {all : ℕ} → r .d < 65536 → (all ≡ 0 → ⊥) → Sunk m J early row low → Fell J row low → Sunk m J early low next → Passing m J early first next all (r .d)
+  passing-moved small some x f y = record {
     sunk = sunk-join (q .sunk) (sunk-join x y);
     still = λ z. absurd (some z);
     fell = λ g. fell-then (q .sunk) f y;
+    fresh = λ h. absurd (omega arith);
+    low = λ h. passing-low;
   }
 
-  pub passing-moves : r .jobs ≡ 0 → Moves J early first row (Swept J early (row-in first)) (Those moved)
+  pub passing-moves : r .jobs ≡ 0 → Moves m J early first row (Swept m J early (row-in first)) (Those moved)
   passing-moves e = (
     q .sunk,
     (λ z. (
       q .still z .0,
       (λ k l. q .still z .1 k l (⊎-elim (λ g. g)
-          (λ g. absurd (has-some (r .jobs) k (in-set k l (omega (arith, ap (λ (x : List ℕ). getD x k 0) (q .still z .0)))) e)) (le-or-lt limit (getD first k 0)))),
+          (λ g. absurd (has-some (r .jobs) k (in-set k l (omega (arith, ap (λ (x : List ℕ). getD x k 0) (q .still z .0)))) e)) (le-or-lt limit (getD first k 0))) (passing-low k l)),
     )),
     q .fell,
   )
@@ -188,30 +205,30 @@ module _ {J : Jobs} {early : ℕ → ℕ} {first row : List ℕ} {moved limit : 
 pub or-some : (x y : ℕ) → (y ≡ 0 → ⊥) → bitOr x y ≡ 0 → ⊥
 or-some x y f z = f (omega (arith, or-add-and x y, and-le-l x y))
 
--- ---- a row that is clear at every d of its own is consistent
-pub swept-consistent : (J : Jobs) (early row : ℕ → ℕ) → Swept J early row → Consistent 2 J early row
-swept-consistent J early row s = consistent-few 2 (omega arith) J early row (λ i l. s i l i l (omega arith) .window) none
+-- ---- a row whose jobs obey the rule at every d of its own is consistent
+pub swept-consistent : (m : ℕ) → 1 ≤ m → (J : Jobs) (early row : ℕ → ℕ) → Swept m J early row → Consistent m J early row
+swept-consistent m pos J early row s = consistent-few m pos J early row (λ i l. s i l i l (omega arith) .window) none
   where
-    none : (i : ℕ) → i < J .size → Few 2 J early row i → ⊥
+    none : (i : ℕ) → i < J .size → Few m J early row i → ⊥
     none i l (own k lk b) = s k lk i l (b .within .by) .own b
     none i l (other j k lj lk b) = s k lk i l (b .within .by) .other j lj b
 
 -- ---- the whole
-module _ (size : ℕ) (start before row next : List ℕ) (long : length next ≡ 64) where
+module _ (m : ℕ) (pos : 1 ≤ m) (size : ℕ) (start before row next : List ℕ) (long : length next ≡ 64) where
   abbrev J : Jobs
   J = jobs-in size start before
 
-  pub tightens-settled : (early mid : List ℕ) (fits : Bool) → Earliest J (row-in early) → Sunk J (row-in early) row mid → Settles J (row-in early) mid next fits → Tightens size start before row next fits
+  pub tightens-settled : (early mid : List ℕ) (fits : Bool) → Earliest J (row-in early) → Sunk m J (row-in early) row mid → Settles m J (row-in early) mid next fits → Tightens m size start before row next fits
   tightens-settled early mid fits e q s = record {
     length = long;
-    latest = λ b other o. latest-any 2 J (row-in early) other (row-in row) (row-in next) e o
-        (record { consistent = swept-consistent J (row-in early) (row-in next) (s .swept b); beneath = sunk b .bound .beneath; greatest = sunk b .bound .rows });
+    latest = λ b other o. latest-any m J (row-in early) other (row-in row) (row-in next) e o
+        (record { consistent = swept-consistent m pos J (row-in early) (row-in next) (s .swept b); beneath = sunk b .bound .beneath; greatest = sunk b .bound .rows });
     rest = λ b. sunk b .rest;
     none = λ b. none-join q (s .none b);
   }
     where
-      sunk : fits ≡ true → Sunk J (row-in early) row next
+      sunk : fits ≡ true → Sunk m J (row-in early) row next
       sunk b = sunk-join q (s .sunk b)
 
-  pub tightens-none : (HasPlan 2 J (row-in row) → ⊥) → Tightens size start before row next false
+  pub tightens-none : (HasPlan m J (row-in row) → ⊥) → Tightens m size start before row next false
   tightens-none f = record { length = long; latest = λ b. absurd (subst T (sym b) tt); rest = λ b. absurd (subst T (sym b) tt); none = λ b. f }

@@ -1,9 +1,5 @@
 -- What the planner promises, in the order to read it. "01" is the scope, "001" the paper that it rests on.
-pub mod Sets
-pub mod Told
-pub mod Unless
-pub mod Answer
-pub mod Outcome
-pub mod Planned
-pub mod Judged
+pub mod Requests
+pub mod List
+pub mod Memory
 pub mod Inner

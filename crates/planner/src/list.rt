@@ -1,21 +1,24 @@
 // The whole list at once.
 use crate::chains;
-use crate::refusal::Answer;
-use crate::sets;
+use crate::chains::Pending;
+use crate::rows;
 use crate::tighten;
+use crate::times::fault;
+use refusal::Answer;
 use schedule::JobIndex;
 ghost use mathlib.Core.Bool.{_||_};
 ghost use mathlib.Core.Path.{_≡_};
 ghost use Prim.Native.Nat.{ℕ, _/_, _≤_, _<_};
 ghost use lib.Dec.{T, eqb};
 ghost use lib.ListN.{length, getD};
-ghost use Rattle.planner.specs.Sets.{has};
-ghost use Rattle.planner.specs.Judged.{Judges, Unsound, Unheld};
-ghost use Rattle.planner.specs.Inner.List.{First, Numbers, Held, Spells, Loops, TakesIn, Hands, Settleable, HandsOut};
+ghost use Rattle.sets.specs.Sets.{has};
+ghost use Rattle.refusal.specs.Says.{Says};
+ghost use Rattle.planner.specs.List.{Judges, judged, job-at, pair-at};
+ghost use Rattle.planner.specs.Inner.List.{First, Held, Spells, Loops, TakesIn, Settleable, Settles};
 
 // The list judged, and its latest times in the receiving row; a refusal leaves the row as it was.
 pub fn judge(starts: &[u16], deadlines: &[u16], pairs: &[u16], latest: &mut [u16]) -> Answer
-    ensures { λ r. ⌜ Judges (now (starts .entry)) (now (deadlines .entry)) (now (pairs .entry)) (now (latest .entry)) (now (latest .exit)) r ⌝ }
+    ensures { λ r. ⌜ Says r (λ n v. Judges (now (starts .entry)) (now (deadlines .entry)) (now (pairs .entry)) (now (latest .entry)) (judged (now (latest .exit)) n v)) ⌝ }
 {
     let size = starts.len();
     if size != deadlines.len() {
@@ -49,7 +52,7 @@ pub fn judge(starts: &[u16], deadlines: &[u16], pairs: &[u16], latest: &mut [u16
 // The first job with a fault of its own, or the number of jobs.
 fn unsound_job(starts: &[u16], deadlines: &[u16]) -> JobIndex
     requires { ⌜ length (now starts) ≡ length (now deadlines) ⌝ }
-    ensures { λ r. ⌜ First (length (now (starts .entry))) (λ i. Unsound (getD (now (starts .entry)) i 0) (getD (now (deadlines .entry)) i 0)) (r .0) ⌝ }
+    ensures { λ r. ⌜ First (length (now (starts .entry))) (job-at (now (starts .entry)) (now (deadlines .entry))) (r .0) ⌝ }
 {
     let mut i: usize = 0;
     while i < starts.len() {
@@ -61,25 +64,9 @@ fn unsound_job(starts: &[u16], deadlines: &[u16]) -> JobIndex
     JobIndex(i)
 }
 
-// The number of a job's fault, and 0 for none.
-fn fault(start: u16, deadline: u16) -> u8
-    ensures { λ r. ⌜ Numbers start deadline r ⌝ }
-{
-    if start > 4095 {
-        return 2;
-    }
-    if deadline > 4096 {
-        return 2;
-    }
-    if deadline <= start {
-        return 3;
-    }
-    0
-}
-
 // The first pair that names a job not held, or the number of pairs.
 fn unheld_pair(pairs: &[u16], size: usize) -> usize
-    ensures { λ r. ⌜ First (length (now (pairs .entry)) / 2) (Unheld size (now (pairs .entry))) r ⌝ }
+    ensures { λ r. ⌜ First (length (now (pairs .entry)) / 2) (pair-at size (now (pairs .entry))) r ⌝ }
 {
     let count = pairs.len() / 2;
     let mut p: usize = 0;
@@ -143,35 +130,26 @@ fn follow(size: usize, rows: &mut [u64; 64], a: JobIndex, b: JobIndex)
     let second = b.0;
     if !sets::has(rows[second], a) {
         let more = sets::with(rows[first], a);
-        chains::link(size, rows, b, more);
+        chains::link(size, rows, Pending { job: b, more });
     }
 }
 
 // The last check: the latest times handed over, or refusal 4.
-fn settle(starts: &[u16], deadlines: &[u16], before: &[u64; 64], latest: &mut [u16]) -> Answer
+fn settle<'a>(
+    starts: &'a [u16],
+    deadlines: &[u16],
+    before: &'a [u64; 64],
+    latest: &mut [u16],
+) -> Answer
     requires { ⌜ Settleable (now starts) (now deadlines) (now before) (now latest) ⌝ }
-    ensures { λ r. ⌜ HandsOut (now (starts .entry)) (now (deadlines .entry)) (now (before .entry)) (now (latest .entry)) (now (latest .exit)) r ⌝ }
+    ensures { λ r. ⌜ Says r (λ n v. Settles (now (starts .entry)) (now (deadlines .entry)) (now (before .entry)) (now (latest .entry)) (judged (now (latest .exit)) n v)) ⌝ }
 {
     let size = starts.len();
-    let mut start = [0u16; 64];
-    hand_over(starts, size, &mut start);
     let mut row = [0u16; 64];
-    hand_over(deadlines, size, &mut row);
-    if tighten::tighten(size, &start, before, JobIndex(0), 0, &mut row) {
-        hand_over(&row, size, latest);
+    rows::hand_over(deadlines, size, &mut row);
+    if tighten::tighten(size, starts, before, Pending::none(), &mut row) {
+        rows::hand_over(&row, size, latest);
         return Answer::Accepted(0);
     }
     Answer::Refused(4, 0)
-}
-
-// The first times of one row, written to another.
-fn hand_over(times: &[u16], size: usize, row: &mut [u16])
-    requires { ⌜ (size ≤ length (now times)) × (size ≤ length (now row)) ⌝ }
-    ensures { λ _. ⌜ Hands size (now (times .entry)) (now (row .entry)) (now (row .exit)) ⌝ }
-{
-    let mut i: usize = 0;
-    while i < size {
-        row[i] = times[i];
-        i += 1;
-    }
 }

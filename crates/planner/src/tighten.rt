@@ -1,53 +1,52 @@
 // Latest times: the rule until nothing moves.
 mod early;
-mod follow;
 mod rule;
+mod sink;
 mod tables;
 
-use crate::sets;
+use crate::chains::Pending;
+use crate::times::time_at;
 use crate::times::wide;
-use schedule::JobIndex;
 ghost use mathlib.Core.Path.{_≡_};
 ghost use Prim.Native.Nat.{ℕ, _<_, _≤_};
 ghost use lib.Dec.{T};
 ghost use lib.ListN.{length, getD};
 ghost use Rattle.schedule.specs.Jobs.{Jobs};
-ghost use Rattle.planner.specs.Sets.{has};
-ghost use Rattle.planner.specs.Told.{row-in};
+ghost use Rattle.sets.specs.Sets.{has};
+ghost use Rattle.book.specs.Told.{cores};
+ghost use Rattle.book.specs.Told.{row-in};
 ghost use Rattle.planner.specs.Inner.Chains.{joined-rows};
-ghost use Rattle.planner.specs.Inner.Tighten.{Tightenable, Tightens};
-ghost use Rattle.planner.specs.Inner.Tables.{Steps, Known};
-ghost use Rattle.planner.specs.Inner.Lower.{Tabled, DueBy, DueAmong, AtD, Swept, Moves, Settles};
+ghost use Rattle.planner.specs.Inner.Tighten.{Tightenable, Tightens, Tabled, DueAmong, AtD, Swept, Moves, Settles};
+ghost use Rattle.planner.specs.Inner.Tighten.Tables.{Rising, Known};
+ghost use Rattle.planner.specs.Inner.Tighten.Rule.{DueBy};
 
 // Which jobs moved; Shut where some job has no time left.
 enum Moved {
-    Jobs(u64),
+    Those(u64),
     Shut,
 }
 
-// The latest row beneath the row lent, in its place; false where no plan meets it.
-// The second job and all that follow it wait for `more` too: a new order's jobs, and else none.
+// The latest row beneath the row lent, in its place, with the order pending; false where no plan meets it.
 pub fn tighten<'a>(
     size: usize,
-    start: &'a [u16; 64],
+    start: &'a [u16],
     before: &'a [u64; 64],
-    second: JobIndex,
-    more: u64,
+    pending: Pending,
     row: &mut [u16; 64],
 ) -> bool
-    requires { ⌜ (second .0 < 64) × Tightenable size (now start) (joined-rows (now before) (second .0) more) (now row) ⌝ }
-    ensures { λ r. ⌜ Tightens size (now (start .entry)) (joined-rows (now (before .entry)) (second .0) more) (now (row .entry)) (now (row .exit)) r ⌝ }
+    requires { ⌜ (pending .job .0 < 64) × Tightenable size (now start) (joined-rows (now before) pending) (now row) ⌝ }
+    ensures { λ r. ⌜ Tightens cores size (now (start .entry)) (joined-rows (now (before .entry)) pending) (now (row .entry)) (now (row .exit)) r ⌝ }
 {
     let mut early = [0u16; 64];
     let mut order = [0u8; 64];
-    early::earliest(size, start, before, second, more, &mut early, &mut order);
+    early::earliest(size, start, before, pending, &mut early, &mut order);
     let mut followers = [0u64; 64];
-    tables::followers(size, before, second, more, &mut followers);
+    tables::followers(size, before, pending, &mut followers);
     let mut times = [65535u16; 65];
     let mut late = [0u64; 65];
     let mut rank = [0u8; 64];
     tables::levels(size, &early, &mut times, &mut late, &mut rank);
-    if follow::follow(size, sets::below(size), &order, &followers, row) {
+    if sink::sink(size, sets::below(size), &order, &followers, row) {
         return settled(size, &order, &followers, &times, &late, &rank, row);
     }
     false
@@ -64,11 +63,11 @@ fn settled<'a>(
     row: &mut [u16; 64],
 ) -> bool
     requires { ⌜ Tabled size (now order) (now followers) (now times) (now late) (now rank) (now row) ⌝ }
-    ensures { λ r. ⌜ (length (now (row .exit)) ≡ 64) × ((J : Jobs) (early : ℕ → ℕ) → J .size ≡ size → Known J early (now (followers .entry)) (now (times .entry)) (now (late .entry)) (now (rank .entry)) → Settles J early (now (row .entry)) (now (row .exit)) r) ⌝ }
+    ensures { λ r. ⌜ (length (now (row .exit)) ≡ 64) × ((J : Jobs) (early : ℕ → ℕ) → J .size ≡ size → Known J early (now (followers .entry)) (now (times .entry)) (now (late .entry)) (now (rank .entry)) → Settles cores J early (now (row .entry)) (now (row .exit)) r) ⌝ }
 {
     loop {
         match pass(size, order, followers, times, late, rank, row) {
-            Moved::Jobs(moved) => {
+            Moved::Those(moved) => {
                 if moved == 0 {
                     return true;
                 }
@@ -91,7 +90,7 @@ fn pass<'a>(
     row: &mut [u16; 64],
 ) -> Moved
     requires { ⌜ Tabled size (now order) (now followers) (now times) (now late) (now rank) (now row) ⌝ }
-    ensures { λ r. ⌜ (length (now (row .exit)) ≡ 64) × ((J : Jobs) (early : ℕ → ℕ) → J .size ≡ size → Known J early (now (followers .entry)) (now (times .entry)) (now (late .entry)) (now (rank .entry)) → Moves J early (now (row .entry)) (now (row .exit)) (Swept J early (row-in (now (row .entry)))) r) ⌝ }
+    ensures { λ r. ⌜ (length (now (row .exit)) ≡ 64) × ((J : Jobs) (early : ℕ → ℕ) → J .size ≡ size → Known J early (now (followers .entry)) (now (times .entry)) (now (late .entry)) (now (rank .entry)) → Moves cores J early (now (row .entry)) (now (row .exit)) (Swept cores J early (row-in (now (row .entry)))) r) ⌝ }
 {
     let mut all: u64 = 0;
     let mut limit: usize = 65536;
@@ -99,13 +98,13 @@ fn pass<'a>(
     loop {
         let due = due_below(limit, among, row);
         if due.jobs == 0 {
-            return Moved::Jobs(all);
+            return Moved::Those(all);
         }
         among = due.jobs;
         match lower_at(due.d, due.jobs, followers, times, late, rank, row) {
-            Moved::Jobs(moved) => {
+            Moved::Those(moved) => {
                 if moved != 0 {
-                    if !follow::follow(size, moved, order, followers, row) {
+                    if !sink::sink(size, moved, order, followers, row) {
                         return Moved::Shut;
                     }
                     all = all | moved;
@@ -135,7 +134,7 @@ fn due_below(limit: usize, among: u64, row: &[u16; 64]) -> Due
     while rest != 0 {
         let job = sets::first(rest);
         let i = job.0;
-        let time = wide(row[i]);
+        let time = time_at(row, i);
         if time < limit {
             jobs = sets::with(jobs, job);
             if d < time {
@@ -157,8 +156,8 @@ fn lower_at<'a>(
     rank: &'a [u8; 64],
     row: &mut [u16; 64],
 ) -> Moved
-    requires { ⌜ Steps (now times) × (length (now row) ≡ 64) × ((j : ℕ) → T (has due j) → (getD (now rank) j 0 < 65) × (getD (now row) j 0 ≤ d)) × (d < 65536) ⌝ }
-    ensures { λ r. ⌜ (length (now (row .exit)) ≡ 64) × ((J : Jobs) (early : ℕ → ℕ) → Known J early (now (followers .entry)) (now (times .entry)) (now (late .entry)) (now (rank .entry)) → DueBy (J .size) (row-in (now (row .entry))) d due → Moves J early (now (row .entry)) (now (row .exit)) (AtD J early (row-in (now (row .entry))) d) r) ⌝ }
+    requires { ⌜ Rising (now times) × (length (now row) ≡ 64) × ((j : ℕ) → T (has due j) → (getD (now rank) j 0 < 65) × (getD (now row) j 0 ≤ d)) × (d < 65536) ⌝ }
+    ensures { λ r. ⌜ (length (now (row .exit)) ≡ 64) × ((J : Jobs) (early : ℕ → ℕ) → Known J early (now (followers .entry)) (now (times .entry)) (now (late .entry)) (now (rank .entry)) → DueBy (J .size) (row-in (now (row .entry))) d due → Moves cores J early (now (row .entry)) (now (row .exit)) (AtD cores J early (row-in (now (row .entry))) d) r) ⌝ }
 {
     let mut moved: u64 = 0;
     let mut rest = due;
@@ -177,5 +176,5 @@ fn lower_at<'a>(
         }
         rest = sets::rest(rest);
     }
-    Moved::Jobs(moved)
+    Moved::Those(moved)
 }

@@ -2,7 +2,7 @@
 -- Assumes nothing.
 use mathlib.Core.List.{[], _∷_, _++_}
 use mathlib.Core.Path.{_≡_, refl}
-use Rattle.report.specs.Text.{word, digits, decimal, each}
+use Rattle.text.specs.Text.{word, digits, decimal, each}
 use Rattle.report.specs.Line.{stopped-line, jobs-line, job-line}
 use Rattle.report.specs.Listing.{refused-lines, slot-lines}
 

@@ -1,5 +1,4 @@
 -- What the listing says, in the order to read it. "01" is the scope.
-pub mod Text
 pub mod Line
 pub mod Listing
 pub mod Inner

@@ -4,7 +4,7 @@ use mathlib.Core.Bool.{cond, _&&_}
 use mathlib.Core.List.{List, [], _∷_}
 use Prim.Native.Nat.{ℕ}
 use lib.Dec.{eqb}
-use Rattle.report.specs.Text.{word, decimal, joined}
+use Rattle.text.specs.Text.{word, decimal, joined}
 
 -- "a line for each refused request: record counted from 0, number"; 0 is the number of no refusal, and gives no line
 abbrev pub refused-line : ℕ → ℕ → List ℕ

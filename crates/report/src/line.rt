@@ -1,10 +1,10 @@
-// The lines of the listing, each written into lent bytes from a place on; each answers the place behind it.
-use crate::text;
+// The lines of the listing, each put into lent bytes from a place on; each answers the place behind it.
+use schedule::JobIndex;
+use schedule::SlotTime;
+ghost use Rattle.text.specs.Put.{Puts};
 ghost use Rattle.report.specs.Line.{refused-line, stopped-line, too-long-line, jobs-line, slot-line, job-line};
-ghost use Rattle.report.specs.Inner.Put.{Room, Puts};
 
 pub fn refused(out: &mut [u8], at: usize, place: usize, number: u8) -> usize
-    requires { ⌜ Room (refused-line place number) at (now out) ⌝ }
     ensures { λ r. ⌜ Puts (refused-line place number) at (now (out .entry)) (now (out .exit)) r ⌝ }
 {
     if number == 0 {
@@ -15,7 +15,6 @@ pub fn refused(out: &mut [u8], at: usize, place: usize, number: u8) -> usize
 }
 
 pub fn stopped(out: &mut [u8], at: usize, offset: usize, number: usize) -> usize
-    requires { ⌜ Room (stopped-line offset number) at (now out) ⌝ }
     ensures { λ r. ⌜ Puts (stopped-line offset number) at (now (out .entry)) (now (out .exit)) r ⌝ }
 {
     let values = [offset, number];
@@ -23,34 +22,31 @@ pub fn stopped(out: &mut [u8], at: usize, offset: usize, number: usize) -> usize
 }
 
 pub fn too_long(out: &mut [u8], at: usize) -> usize
-    requires { ⌜ Room too-long-line at (now out) ⌝ }
     ensures { λ r. ⌜ Puts too-long-line at (now (out .entry)) (now (out .exit)) r ⌝ }
 {
     let values = [0usize; 0];
     text::fill(out, at, b"file refused 9\n", &values)
 }
 
-pub fn jobs(out: &mut [u8], at: usize, jobs: usize, slots: usize) -> usize
-    requires { ⌜ Room (jobs-line jobs slots) at (now out) ⌝ }
-    ensures { λ r. ⌜ Puts (jobs-line jobs slots) at (now (out .entry)) (now (out .exit)) r ⌝ }
+pub fn jobs(out: &mut [u8], at: usize, jobs: usize, finish: SlotTime) -> usize
+    ensures { λ r. ⌜ Puts (jobs-line jobs (finish .0)) at (now (out .entry)) (now (out .exit)) r ⌝ }
 {
-    let values = [jobs, slots];
+    let values = [jobs, finish.0];
     text::fill(out, at, b"jobs \x00 slots \x01\n", &values)
 }
 
 pub fn job(
     out: &mut [u8],
     at: usize,
-    job: usize,
-    start: usize,
-    latest: usize,
-    end: usize,
+    job: JobIndex,
+    start: SlotTime,
+    latest: SlotTime,
+    end: SlotTime,
     spare: usize,
 ) -> usize
-    requires { ⌜ Room (job-line job start latest end spare) at (now out) ⌝ }
-    ensures { λ r. ⌜ Puts (job-line job start latest end spare) at (now (out .entry)) (now (out .exit)) r ⌝ }
+    ensures { λ r. ⌜ Puts (job-line (job .0) (start .0) (latest .0) (end .0) spare) at (now (out .entry)) (now (out .exit)) r ⌝ }
 {
-    let values = [job, start, latest, end, spare];
+    let values = [job.0, start.0, latest.0, end.0, spare];
     text::fill(
         out,
         at,
@@ -59,11 +55,11 @@ pub fn job(
     )
 }
 
-pub fn slot(out: &mut [u8], at: usize, slot: usize, core0: u8, core1: u8) -> usize
-    requires { ⌜ Room (slot-line slot core0 core1) at (now out) ⌝ }
-    ensures { λ r. ⌜ Puts (slot-line slot core0 core1) at (now (out .entry)) (now (out .exit)) r ⌝ }
+// The two bytes of a slot in the plan.
+pub fn slot(out: &mut [u8], at: usize, slot: SlotTime, core0: u8, core1: u8) -> usize
+    ensures { λ r. ⌜ Puts (slot-line (slot .0) core0 core1) at (now (out .entry)) (now (out .exit)) r ⌝ }
 {
-    let values = [slot, core0 as usize, core1 as usize];
+    let values = [slot.0, core0 as usize, core1 as usize];
     if core0 == 255 {
         if core1 == 255 {
             return at;

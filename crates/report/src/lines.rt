@@ -1,14 +1,16 @@
-// The parts of the listing that are a line for each of something.
+// The parts of the listing that are more than a line.
+use crate::jobs;
 use crate::line;
-ghost use Prim.Native.Nat.{_+_, _*_, _≤_};
-ghost use lib.ListN.{length};
-ghost use Rattle.report.specs.Listing.{refused-lines, slot-lines};
-ghost use Rattle.report.specs.Inner.Put.{Puts};
+use book::Before;
+use book::Times;
+use schedule::SlotTime;
+ghost use Rattle.book.specs.Told.{Made, held};
+ghost use Rattle.text.specs.Put.{Puts};
+ghost use Rattle.report.specs.Listing.{refused-lines, slot-lines, book-lines};
 
 // The number of each record's answer, 0 where it is accepted.
 pub fn refused(out: &mut [u8], at: usize, numbers: &[u8]) -> usize
-    requires { ⌜ (length (now numbers) ≤ 4096) × (at + 24 * length (now numbers) ≤ length (now out)) ⌝ }
-    ensures { λ r. ⌜ Puts (refused-lines (now (numbers .entry))) at (now (out .entry)) (now (out .exit)) r × (r ≤ at + 24 * length (now (numbers .entry))) ⌝ }
+    ensures { λ r. ⌜ Puts (refused-lines (now (numbers .entry))) at (now (out .entry)) (now (out .exit)) r ⌝ }
 {
     let mut next = at;
     for place in 0..numbers.len() {
@@ -17,14 +19,33 @@ pub fn refused(out: &mut [u8], at: usize, numbers: &[u8]) -> usize
     next
 }
 
+// Jobs held and finishing time, the slots of the plan, the jobs: the plan is laid out once.
+pub fn book(out: &mut [u8], at: usize, times: &Times, before: &Before) -> usize
+    requires { ⌜ Made (held (now times) (now before)) ⌝ }
+    ensures { λ r. ⌜ Puts (book-lines (held (now (times .entry)) (now (before .entry)))) at (now (out .entry)) (now (out .exit)) r ⌝ }
+{
+    let mut bytes = [0u8; 8192];
+    let finish = refusal::value(plan::plan(times, before, &mut bytes));
+    let headed = line::jobs(out, at, jobs::held(times), SlotTime(finish));
+    let needed = 2 * finish;
+    let laid = &bytes[..needed];
+    let next = slots(out, headed, laid);
+    jobs::lines(out, next, times, laid)
+}
+
 // Two bytes a slot, core 0 first.
-pub fn slots(out: &mut [u8], at: usize, plan: &[u8]) -> usize
-    requires { ⌜ (length (now plan) ≤ 8192) × (at + 9 * length (now plan) ≤ length (now out)) ⌝ }
-    ensures { λ r. ⌜ Puts (slot-lines (now (plan .entry))) at (now (out .entry)) (now (out .exit)) r × (r ≤ at + 9 * length (now (plan .entry))) ⌝ }
+fn slots(out: &mut [u8], at: usize, plan: &[u8]) -> usize
+    ensures { λ r. ⌜ Puts (slot-lines (now (plan .entry))) at (now (out .entry)) (now (out .exit)) r ⌝ }
 {
     let mut next = at;
     for slot in 0..plan.len() / 2 {
-        next = line::slot(out, next, slot, plan[2 * slot], plan[2 * slot + 1]);
+        next = line::slot(
+            out,
+            next,
+            SlotTime(slot),
+            plan[2 * slot],
+            plan[2 * slot + 1],
+        );
     }
     next
 }

@@ -14,9 +14,10 @@ use Rattle.schedule.specs.Plan.{HasPlan}
 use Rattle.schedule.specs.Times.{Earliest, N, up, Consistent, Breach, left}
 use Rattle.schedule.specs.Listed.{Listed, ordered, Chain, link, join, Looped, Formed, Reads, written}
 use Rattle.schedule.specs.Book.{Holds}
+use Rattle.schedule.specs.Theory.Bound.{Bound}
 use Rattle.schedule.proofs.Tests.{Says, says-and, says-le, says-lt, says-not, says-then, itself, says-eq, says-or}
 use Rattle.schedule.proofs.Early.{raise, raise-least}
-use Rattle.schedule.proofs.Exist.{latest, Bound, bound-start, bound-lower, bound-latest, bound-shut}
+use Rattle.schedule.proofs.Exist.{latest, bound-start, bound-lower, bound-latest, bound-shut}
 use Rattle.schedule.proofs.Few.{Few, own, other, consistent-few}
 use Rattle.schedule.proofs.Choice.{says-all}
 use Rattle.schedule.proofs.Renumber.{latest-agrees}

@@ -9,10 +9,12 @@ use native.Mathlib.Omega.{arith}
 use Rattle.schedule.specs.Row.{put}
 use Rattle.schedule.specs.Jobs.{Jobs}
 use Rattle.schedule.specs.Plan.{Valid, Meets, HasPlan}
-use Rattle.schedule.specs.Times.{Earliest, Consistent, Breach, left, Beneath, HasRow, Latest, Full, Open}
+use Rattle.schedule.specs.Times.{Earliest, Consistent, Breach, left, HasRow, Latest, Full, Open}
+use Rattle.schedule.specs.Theory.Sum.{sum}
+use Rattle.schedule.specs.Theory.Bound.{Bound}
 use Rattle.schedule.proofs.Tests.{le-by}
 use Rattle.schedule.proofs.Search.{decAny}
-use Rattle.schedule.proofs.Rows.{sum, put-le, put-falls}
+use Rattle.schedule.proofs.Rows.{put-le, put-falls}
 use Rattle.schedule.proofs.Press.{N-bound}
 use Rattle.schedule.proofs.Round.{unbroken, decBreach}
 use Rattle.schedule.proofs.Sound.{valid-above}
@@ -26,12 +28,6 @@ pub record Hopeless (m : ℕ) (J : Jobs) (early due : ℕ → ℕ) : Type 0 wher
 pub data Verdict (m : ℕ) (J : Jobs) (early due : ℕ → ℕ) : Type 0 where
   latest : (row : ℕ → ℕ) → Latest m J early due row → ((slot : ℕ → ℕ) → Valid m J slot → Meets J due slot → Meets J row slot) → Verdict m J early due
   hopeless : Hopeless m J early due → Verdict m J early due
-
--- what has been shown of a row on the way down from the deadlines
-pub record Bound (m : ℕ) (J : Jobs) (early due row : ℕ → ℕ) : Type 0 where
-  pub beneath : Beneath J row due
-  pub plans : (slot : ℕ → ℕ) → Valid m J slot → Meets J due slot → Meets J row slot
-  pub rows : (low : ℕ → ℕ) → Consistent m J early low → Beneath J low due → Beneath J low row
 
 -- a verdict, or a lower row
 data Step (m : ℕ) (J : Jobs) (early due row : ℕ → ℕ) : Type 0 where

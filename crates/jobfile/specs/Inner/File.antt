@@ -2,20 +2,18 @@
 -- Assumes nothing.
 use mathlib.Core.List.{List, _++_}
 use mathlib.Core.Path.{_≡_}
-use Prim.Native.Nat.{ℕ, _*_, _/_, _≤_}
-use lib.ListN.{length, drop}
-use Rattle.planner.specs.declared.book.Book.{Book}
-use Rattle.planner.specs.Told.{Made}
-use Rattle.jobfile.specs.declared.reader.Step.{Step}
-use Rattle.jobfile.specs.File.{Pass}
+use Prim.Native.Nat.{ℕ, _*_, _≤_}
+use lib.ListN.{length}
+use lib.Seq.{sets}
+use Rattle.book.specs.Told.{Book, Made}
+use Rattle.jobfile.specs.Reader.{Step}
+use Rattle.jobfile.specs.File.{SingleReads}
 
--- n records are read: their numbers are stored, and what is read from here on is the rest
+-- n records are read: their numbers are stored, and what is read from here on is the rest; no record is shorter than six bytes
 pub record Underway (k : Book) (file old new : List ℕ) (held : Book) (at n : ℕ) : Type 0 where
   pub numbers : List ℕ
   pub count : n ≡ length numbers
-  pub place : at ≡ 6 * n
-  pub within : n ≤ length old
-  pub bytes : new ≡ numbers ++ drop n old
-  pub rest : (more : List ℕ) (r : Step) → Pass file held at more r → Pass file k 0 (numbers ++ more) r
+  pub place : 6 * n ≤ at
+  pub bytes : new ≡ sets old 0 numbers
+  pub rest : (others : List ℕ) (r : Step) → SingleReads file held at others r → SingleReads file k 0 (numbers ++ others) r
   pub made : Made held
-  pub room : length file ≤ 24576 → length file / 6 ≤ length old

@@ -1,15 +1,18 @@
--- The reader of a text with counts in place of lists of words.
+-- The reader of a text with a word counted in place of kept.
 -- Assumes nothing.
-use mathlib.Core.Bool.{true, false, cond}
-use Prim.Native.Nat.{ℕ, _+_, _-_, _*_}
-use lib.Dec.{eqb, leb}
-use Rattle.keying.specs.Text.{digit, blank, known}
+use mathlib.Core.Bool.{false, cond, _&&_}
+use Prim.Native.Nat.{ℕ, _+_, _-_, _*_, _^_, _<_}
+use lib.Dec.{eqb, leb, ltb}
+use Rattle.records.specs.Find.{record-named}
+use Rattle.keying.specs.Text.{digit, inner, no-entry, grown-by, or-else}
 use Rattle.keying.specs.declared.word.Word.{Word}
 use Rattle.keying.specs.declared.entry.Entry.{Entry}
-use Rattle.keying.specs.declared.entry.Slip.the-variants.{UnknownWord, MissingField, ExtraField, NotNumber, TooLarge}
-use Rattle.keying.specs.declared.entry.Said.{Said}
-use Rattle.keying.specs.declared.entry.Said.the-variants.{Nothing, Told, Wrong}
+use Rattle.keying.specs.declared.entry.Slip.the-variants.{UnknownWord, MissingField, ExtraField, NotNumber, TooLarge, CommaNumber}
+use Rattle.keying.specs.declared.entry.Taken.{Taken}
+use Rattle.keying.specs.declared.entry.Taken.the-variants as taken
 use Rattle.keying.specs.declared.reader.Reader.{Reader}
+use Rattle.keying.specs.declared.reader.Step.{Step}
+use Rattle.keying.specs.declared.reader.Step.the-variants as step
 
 -- a number with one byte more: 65,536 is too large, 65,537 none
 unfoldable pub number-with : ℕ → ℕ → ℕ
@@ -17,56 +20,55 @@ number-with n b = cond (digit b) (cond (leb n 65535) (cond (leb (10 * n + (b - 4
 
 unfoldable pub word-with : Word → ℕ → Word
 word-with w b =
-    cond (eqb (w .size) 0) (record { size = 1; high = b; low = w .low; number = number-with (w .number) b })
+    cond (eqb (w .size) 0) (record { size = 1; high = b; low = 0; number = number-with (w .number) b })
     (cond (eqb (w .size) 1) (record { size = 2; high = w .high; low = b; number = number-with (w .number) b })
-    (record { size = 3; high = w .high; low = w .low; number = number-with (w .number) b }))
+    (record { size = w .size + 1; high = w .high; low = w .low; number = number-with (w .number) b }))
 
 unfoldable pub word-mark : Word → ℕ
 word-mark w = cond (eqb (w .size) 2) (256 * w .high + w .low) 0
 
-unfoldable pub entry-with : Entry → Word → Entry
-entry-with e w =
-    cond (eqb (w .size) 0) e
-    (cond (eqb (e .filled) 0) (record { filled = 1; mark = word-mark w; first = e .first; second = e .second })
-    (cond (eqb (e .filled) 1) (record { filled = 2; mark = e .mark; first = w .number; second = e .second })
-    (cond (eqb (e .filled) 2) (record { filled = 3; mark = e .mark; first = e .first; second = w .number })
-    (record { filled = 4; mark = e .mark; first = e .first; second = e .second }))))
-
 -- a field by its number
-unfoldable pub numbered : ℕ → Said → Said
-numbered n next = cond (leb n 65536) (cond (leb n 65535) next (Wrong TooLarge)) (Wrong NotNumber)
+unfoldable pub numbered : Entry → ℕ → Taken
+numbered e n = cond (leb n 65536) (cond (leb n 65535) (taken.Grown (grown-by e n)) (taken.Wrong TooLarge)) (taken.Wrong NotNumber)
 
--- once the word is known
-unfoldable pub fields-say : Entry → Said
-fields-say e =
-    cond (eqb (e .filled) 1) (Wrong MissingField)
-    (numbered (e .first)
-    (cond (eqb (e .filled) 2) (Wrong MissingField)
-    (numbered (e .second)
-    (cond (eqb (e .filled) 3) (Told (record { mark = e .mark; first = e .first; second = e .second })) (Wrong ExtraField)))))
+unfoldable pub no-mark : ℕ → ℕ → Taken
+no-mark place n = taken.Wrong (cond (ltb 1 place && leb n 65536) CommaNumber UnknownWord)
 
-unfoldable pub entry-says : Entry → Said
-entry-says e = cond (eqb (e .filled) 0) Nothing (cond (known (e .mark)) (fields-say e) (Wrong UnknownWord))
+unfoldable pub first-by : ℕ → Word → Taken
+first-by place w = or-else (record-named (word-mark w) 0 0 0) (no-mark place (w .number))
+
+unfoldable pub entry-with : Entry → ℕ → Word → Taken
+entry-with e place w =
+    cond (eqb (w .size) 0) (taken.Grown e)
+    (cond (eqb (e .filled) 0) (first-by place w) (cond (eqb (e .filled) 3) (taken.Wrong ExtraField) (numbered e (w .number))))
 
 abbrev pub no-word : Word
 no-word = record { size = 0; high = 0; low = 0; number = 0 }
 
-abbrev pub no-entry : Entry
-no-entry = record { filled = 0; mark = 0; first = 0; second = 0 }
+unfoldable pub blank-reader : ℕ → ℕ → Reader
+blank-reader line entry = record { line = line; entry = entry; remark = false; told = no-entry; word = no-word }
 
-unfoldable pub blank-reader : ℕ → Reader
-blank-reader n = record { line = n; remark = false; entry = no-entry; word = no-word }
+unfoldable pub reader-grown : Reader → ℕ → Reader
+reader-grown r b = cond (r .remark) r (record { line = r .line; entry = r .entry; remark = false; told = r .told; word = word-with (r .word) b })
 
-unfoldable pub reader-says : Reader → ℕ → Said
-reader-says r b =
-    cond (eqb b 10) (entry-says (entry-with (r .entry) (r .word)))
-    (cond (r .remark) Nothing (cond (eqb b 44) (entry-says (entry-with (r .entry) (r .word))) Nothing))
+unfoldable pub reader-finished : Entry → Reader → Step
+reader-finished e next = cond (eqb (e .filled) 0) (step.On next) (cond (eqb (e .filled) 3) (step.Told next (e .told)) (step.Wrong MissingField 0))
 
-unfoldable pub reader-after : Reader → ℕ → Reader
-reader-after r b =
-    cond (eqb b 10) (blank-reader (r .line + 1))
-    (cond (r .remark) r
-    (cond (eqb b 44) (blank-reader (r .line))
-    (cond (eqb b 35) (record { line = r .line; remark = true; entry = r .entry; word = r .word })
-    (cond (blank b) (record { line = r .line; remark = false; entry = entry-with (r .entry) (r .word); word = no-word })
-    (record { line = r .line; remark = false; entry = r .entry; word = word-with (r .word) b })))))
+unfoldable pub reader-ended : Reader → Entry → ℕ → Step
+reader-ended r e b =
+    cond (eqb b 10) (reader-finished e (blank-reader (r .line + 1) 1))
+    (cond (eqb b 44) (reader-finished e (blank-reader (r .line) (r .entry + 1)))
+    (step.On (record { line = r .line; entry = r .entry; remark = eqb b 35; told = e; word = no-word })))
+
+abbrev pub reader-taken : Reader → ℕ → Taken → Step
+reader-taken r b (taken.Wrong slip) = step.Wrong slip (r .word .size)
+reader-taken r b (taken.Grown e) = reader-ended r e b
+
+unfoldable pub reader-step : Reader → ℕ → Step
+reader-step r b = cond (inner (r .remark) b) (step.On (reader-grown r b)) (reader-taken r b (entry-with (r .told) (r .entry) (r .word)))
+
+-- what is counted can go up by one
+pub record Counts (r : Reader) : Type 0 where
+  pub line : r .line + 1 < 2 ^ 64
+  pub entry : r .entry + 1 < 2 ^ 64
+  pub size : r .word .size + 1 < 2 ^ 64

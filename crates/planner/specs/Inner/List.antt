@@ -10,27 +10,22 @@ use Rattle.schedule.specs.Jobs.{Closed, Loopless}
 use Rattle.schedule.specs.Plan.{HasPlan}
 use Rattle.schedule.specs.Times.{Earliest, Latest}
 use Rattle.schedule.specs.Listed.{Chain}
-use Rattle.planner.specs.declared.refusal.Answer.{Answer}
-use Rattle.planner.specs.declared.refusal.Answer.the-variants.{Accepted, Refused}
-use Rattle.planner.specs.Sets.{has}
-use Rattle.planner.specs.Told.{jobs-in, row-in}
-use Rattle.planner.specs.Judged.{pairs-of, Unsound, number-for, Unheld, Looping}
+use Rattle.sets.specs.Sets.{has}
+use Rattle.book.specs.Told.{cores, jobs-in, row-in}
+use Rattle.planner.specs.List.{pairs-of, pair-at, order-at, Judged, judged, TurnedDown}
+use Rattle.refusal.specs.Table.{Checks, check, Clear, Refuses, Table}
 use Rattle.planner.specs.Inner.Chains.{Links}
+use Rattle.planner.specs.Inner.Rows.{Hands}
 
--- the first place below n that has a fault, or n where none has
-pub record First (n : ℕ) (fault : ℕ → Type 0) (r : ℕ) : Type 0 where
+-- the first place below n at which a check finds its fault, or n where none does
+pub record First (n : ℕ) (at : ℕ → Checks) (r : ℕ) : Type 0 where
   pub within : r ≤ n
-  pub clear : (j : ℕ) → j < r → fault j → ⊥
-  pub at : r < n → fault r
-
--- the number of a job's fault, and 0 for none
-pub record Numbers (start deadline r : ℕ) : Type 0 where
-  pub none : r ≡ 0 → Unsound start deadline → ⊥
-  pub some : (r ≡ 0 → ⊥) → Unsound start deadline × (r ≡ number-for start deadline)
+  pub before : (j : ℕ) → j < r → Clear (at j)
+  pub found : r < n → (m : ℕ) × Refuses (at r) m r
 
 -- every pair is of jobs below size
 pub record Held (size : ℕ) (pairs : List ℕ) : Type 0 where
-  pub below : (p : ℕ) → p < length pairs / 2 → Unheld size pairs p → ⊥
+  pub below : (p : ℕ) → p < length pairs / 2 → Clear (pair-at size pairs p)
 
 -- 64 rows spell the chains of the first n pairs
 pub record Spells (pairs : List ℕ) (n : ℕ) (rows : List ℕ) : Type 0 where
@@ -39,18 +34,12 @@ pub record Spells (pairs : List ℕ) (n : ℕ) (rows : List ℕ) : Type 0 where
 
 -- the first pair that closes a loop, and the rows of those before it
 pub record Loops (pairs rows : List ℕ) (r : ℕ) : Type 0 where
-  pub first : First (length pairs / 2) (Looping pairs) r
+  pub first : First (length pairs / 2) (order-at pairs) r
   pub spells : Spells pairs r rows
 
 -- a before b already follows, or is taken in
 abbrev pub TakesIn : ℕ → ℕ → List ℕ → List ℕ → Type 0
 TakesIn a b old new = (T (has (getD old b 0) a) × (new ≡ old)) ⊎ ((length new ≡ 64) × Links a b old new)
-
--- the first entries of a row, and the rest as it was
-pub record Hands (size : ℕ) (times row after : List ℕ) : Type 0 where
-  pub same-length : length after ≡ length row
-  pub front : (i : ℕ) → i < size → getD after i 0 ≡ getD times i 0
-  pub rest : (i : ℕ) → size ≤ i → getD after i 0 ≡ getD row i 0
 
 -- rows to settle: what tightening asks of them, and the receiving row has room
 pub record Settleable (starts deadlines before row : List ℕ) : Type 0 where
@@ -64,8 +53,14 @@ pub record Settleable (starts deadlines before row : List ℕ) : Type 0 where
   pub loopless : Loopless (jobs-in (length starts) starts before)
   pub held : (a b : ℕ) → T (has (getD before b 0) a) → (a < length starts) × (b < length starts)
 
--- the latest times handed out, or refusal 4 and the row as it was
-pub data HandsOut (starts deadlines before row after : List ℕ) (r : Answer) : Type 0 where
-  none : (HasPlan 2 (jobs-in (length starts) starts before) (row-in deadlines) → ⊥) → r ≡ Refused 4 0 → after ≡ row → HandsOut starts deadlines before row after r
-  fits : (times : List ℕ) → ((early : ℕ → ℕ) → Earliest (jobs-in (length starts) starts before) early → Latest 2 (jobs-in (length starts) starts before) early (row-in deadlines) (row-in times)) →
-      r ≡ Accepted 0 → Hands (length starts) times row after → HandsOut starts deadlines before row after r
+-- accepted with 0: the latest times in the receiving row
+pub record Settled (starts deadlines before row : List ℕ) (r : Judged) : Type 0 where
+  pub accepts : r ≡ judged (r .row) 0 0
+  pub times : List ℕ
+  pub latest : (early : ℕ → ℕ) → Earliest (jobs-in (length starts) starts before) early → Latest cores (jobs-in (length starts) starts before) early (row-in deadlines) (row-in times)
+  pub handed : Hands (length starts) times row (r .row)
+
+-- 4 where no plan meets the deadlines, and the row as it was; else the latest times
+abbrev pub Settles : List ℕ → List ℕ → List ℕ → List ℕ → Judged → Type 0
+Settles starts deadlines before row =
+    Table (check 4 0 (HasPlan cores (jobs-in (length starts) starts before) (row-in deadlines) → ⊥)) (TurnedDown row) (Settled starts deadlines before row)

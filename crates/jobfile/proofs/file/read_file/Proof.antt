@@ -1,62 +1,65 @@
 -- `jobfile::file::read_file` meets its contract. The invariant: the numbers of the records read are stored, and what is read from here on is the rest.
 -- Assumes nothing.
+use mathlib.Core.Bool.{not}
 use mathlib.Core.Logic.{⊎-elim}
-use mathlib.Core.Path.{refl}
 use Prim.Native.Nat.{_-_}
 use native.Mathlib.Omega.{arith}
 use borrow.Author.Needs.{needs}
+use lib.Dec.{T}
 use lib.ListN.{length}
-use Rattle.planner.specs.Unless.{refused}
+use Rattle.book.specs.Told.{held}
+use Rattle.refusal.specs.Says.{number-of, value-of}
+use Rattle.jobfile.specs.Reader.{step, halts, ReadsRecord}
 use Rattle.jobfile.specs.Inner.File.{Underway}
-use Rattle.jobfile.proofs.Whole.{underway-begins, underway-length, underway-ends, underway-less, underway-room, underway-more}
+use Rattle.jobfile.proofs.Events.{tells-halted}
+use Rattle.jobfile.proofs.Single.{request-told, underway-begins, underway-ends, underway-less, underway-room, underway-more}
 use Rattle.jobfile.proofs.file.read_file.Statement.{statement}
 use Rattle.jobfile.proofs.file.read_file.Tie as tie
 
 abbrev Inv-loop : tie.InvT-loop
-Inv-loop file answers₀ records held₀ at₀ done₀ answers held at done = Underway held₀ file answers₀ answers held at done
+Inv-loop times₀ before₀ file answers₀ at₀ records₀ times before answers at records = Underway (held times₀ before₀) file answers₀ answers (held times before) at records
 
 abbrev μ-loop : tie.MeasureT-loop
-μ-loop file answers₀ records held₀ at₀ done₀ answers held at done = length file - at
-
-returns : tie.Need-returns Inv-loop μ-loop
-returns c = record { outcome = refused (c .before .if1 .taken, c .if2 .taken) refl; made = c .before .before .before .before .pre }
+μ-loop times₀ before₀ file answers₀ at₀ records₀ times before answers at records = length file - at
 
 loop-holds : tie.Need-loop-holds Inv-loop μ-loop
-loop-holds c = underway-begins _ _ _ (c .before .before .before .pre) (λ short. ⊎-elim (λ w. w .1 .left) (λ w. absurd (omega (arith, w .left))) (c .if1 .came))
+loop-holds c = underway-begins _ _ _ (c .before .pre)
 
 read-requires : tie.Need-read-requires Inv-loop μ-loop
-read-requires c κs = c .loop .inv .made
+read-requires c κs = c .before .before .before .loop .inv .made
 
 enum-known-event : tie.Need-enum-known-event Inv-loop μ-loop
 enum-known-event c = search needs
 
-same-length : tie.Need-same-length Inv-loop μ-loop
-same-length c = underway-length _ _ _ _ _ _ _ (c .before .before .loop .inv)
+returns : tie.Need-returns Inv-loop μ-loop
+returns c =
+    let r = c .before in
+    let l = r .before .before .before .before in
+    tells-halted _ _ (r .read .result) (λ answer e. ⊎-elim (λ w. omega arith) (λ w. omega arith) (rw e at (c .match .keys2)))
+    (λ n v h x. underway-ends _ _ _ _ _ _ _ (l .loop .inv) _ x h) (r .read .ensures)
 
-returns-2 : tie.Need-returns-2 Inv-loop μ-loop
-returns-2 c = underway-ends _ _ _ _ _ _ _ (c .before .before .loop .inv) _ (c .before .read .ensures)
-    (λ answer e. ⊎-elim (λ w. omega arith) (λ w. omega arith) (rw e at (c .match .keys2)))
+-- what the read of a request tells
+told : (c : tie.After-event Inv-loop μ-loop) → let r = c .before .before in let l = r .before .before .before .before in let a = c .event .given .0 .0 in
+    T (not (halts (number-of a))) × ReadsRecord (held (l .loop .times) (l .loop .before)) (l .before .before .args .file .now) (l .loop .at)
+    (step (held (r .read .last .0) (r .read .last .1 .0)) (r .read .last .1 .1 .1 .0) (number-of a) (value-of a))
+told c = request-told _ _ _ _ _ _ _ (c .event .given .1) (c .before .before .read .ensures)
 
 number-requires : tie.Need-number-requires Inv-loop μ-loop
 number-requires c κs = search needs
 
-slice-write-answers : tie.Need-slice-write-answers Inv-loop μ-loop
-slice-write-answers c =
-    let e = c .before .before in
-    underway-room _ _ _ _ _ _ _ (e .before .before .before .loop .inv) _ (e .before .before .read .ensures) _ (e .event .given .1)
+element-write-answers : tie.Need-element-write-answers Inv-loop μ-loop
+element-write-answers c = let e = c .before .before in underway-room _ _ _ _ _ _ _ (e .before .before .before .before .before .before .loop .inv) _ (told e .1) (told e .0)
 
-add-done : tie.Need-add-done Inv-loop μ-loop
-add-done c = omega (arith, slice-write-answers c, underway-length _ _ _ _ _ _ _ (c .before .before .before .before .before .loop .inv))
+add-records : tie.Need-add-records Inv-loop μ-loop
+add-records c = omega (arith, element-write-answers c)
 
 loop-less : tie.Need-loop-less Inv-loop μ-loop
-loop-less c =
-    let e = c .before .before .before in
-    underway-less _ _ _ _ _ _ _ (e .before .before .before .loop .inv) _ (e .before .before .read .ensures) _ (e .event .given .1)
+loop-less c = let e = c .before .before in underway-less _ _ _ _ _ _ _ (e .before .before .before .before .before .before .loop .inv) _ (told e .1) (told e .0)
 
 loop-again : tie.Need-loop-again Inv-loop μ-loop
 loop-again c =
-    let e = c .before .before .before in
-    rw (c .before .number .ensures) (underway-more _ _ _ _ _ _ _ (e .before .before .before .loop .inv) _ (e .before .before .read .ensures) _ (e .event .given .1))
+    let e = c .before .before in
+    rw (c .number .ensures) (underway-more _ _ _ _ _ _ _ (e .before .before .before .before .before .before .loop .inv) _ (told e .1) (told e .0))
 
 pub read-file-spec : {M : Type 1} → statement M
 read-file-spec =
@@ -64,14 +67,12 @@ read-file-spec =
     (tie.spec
     Inv-loop
     μ-loop
-    returns
     loop-holds
     read-requires
     enum-known-event
-    same-length
-    returns-2
+    returns
     number-requires
-    slice-write-answers
-    add-done
+    element-write-answers
+    add-records
     loop-less
     loop-again)

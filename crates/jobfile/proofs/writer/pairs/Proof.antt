@@ -3,12 +3,14 @@
 use mathlib.Core.Path.{_≡_}
 use Prim.Native.Nat.{_+_, _*_, _-_, _≤_}
 use native.Mathlib.Numerals.{add-one}
-use lib.Count.{ones}
-use lib.ListN.{getD}
 use native.Mathlib.Omega.{arith}
+use lib.ListN.{getD}
+use Rattle.schedule.specs.Count.{count}
+use Rattle.schedule.specs.Theory.Sum.{sum}
+use Rattle.schedule.proofs.Counting.{count-bound}
+use Rattle.sets.specs.Sets.{has}
+use Rattle.jobfile.specs.Inner.Writer.{pairs-in}
 use borrow.Author.Needs.{needs}
-use Rattle.schedule.proofs.Rows.{sum}
-use Rattle.jobfile.specs.Inner.Write.{pairs-in}
 use Rattle.jobfile.proofs.writer.pairs.Statement.{statement}
 use Rattle.jobfile.proofs.writer.pairs.Tie as tie
 
@@ -22,17 +24,17 @@ loop-holds : tie.Need-loop-holds Inv-loop μ-loop
 unfolding sum
 loop-holds c = search needs
 
-mul-members : tie.Need-mul-members Inv-loop μ-loop
-mul-members c = search needs
+mul-size : tie.Need-mul-size Inv-loop μ-loop
+mul-size c = search needs
 
-element-copy-out-members : tie.Need-element-copy-out-members Inv-loop μ-loop
-element-copy-out-members c = search needs
+element-copy-out-size : tie.Need-element-copy-out-size Inv-loop μ-loop
+element-copy-out-size c = search needs
 
-members-requires : tie.Need-members-requires Inv-loop μ-loop
-members-requires c κs = search needs
+size-requires : tie.Need-size-requires Inv-loop μ-loop
+size-requires c κs = search needs
 
 add-sum : tie.Need-add-sum Inv-loop μ-loop
-add-sum c = search needs
+add-sum c = omega (arith, c .size .ensures, count-bound 64 (has (getD (c .before .before .before .before .args .before .now) (c .before .before .before .loop .b) 0)))
 
 add-b : tie.Need-add-b Inv-loop μ-loop
 add-b c = search needs
@@ -44,8 +46,9 @@ loop-again : tie.Need-loop-again Inv-loop μ-loop
 unfolding sum
 loop-again c =
     let p = c .before .before .before in
-    let more : pairs-in (p .loop .b + 1) (p .before .args .before .now) ≡ ones (getD (p .before .args .before .now) (p .loop .b) 0) + pairs-in (p .loop .b) (p .before .args .before .now) = rw add-one in
-    (search needs, omega (arith, more, p .loop .inv .1, c .members .ensures .0), omega arith)
+    let row = p .before .args .before .now in
+    let more : pairs-in (p .loop .b + 1) row ≡ count 64 (has (getD row (p .loop .b) 0)) + pairs-in (p .loop .b) row = rw add-one in
+    (search needs, omega (arith, more, p .loop .inv .1, c .size .ensures), omega (arith, c .size .ensures, count-bound 64 (has (getD row (p .loop .b) 0))))
 
 returns : tie.Need-returns Inv-loop μ-loop
 returns c =
@@ -59,9 +62,9 @@ pairs-spec =
     Inv-loop
     μ-loop
     loop-holds
-    mul-members
-    element-copy-out-members
-    members-requires
+    mul-size
+    element-copy-out-size
+    size-requires
     add-sum
     add-b
     loop-less

@@ -1,65 +1,63 @@
 -- `jobfile::writer::put_followers` meets its contract. The invariant: the orders of the jobs passed are stored.
 -- Assumes nothing.
+use mathlib.Core.List.{[], _∷_}
 use mathlib.Core.Logic.{⊎-elim}
-use mathlib.Core.Bool.{true, false}
 use mathlib.Core.Path.{_≡_, sym, _∙_}
-use Prim.Native.Nat.{_+_, _-_, _≤_}
-use native.Mathlib.Nat.{add-zero}
-use borrow.Author.Tests.{eq-eqb, ne-eqb}
-use lib.ListN.{length, getD}
-use Rattle.planner.specs.Sets.{has}
+use Prim.Native.Nat.{_-_, _≤_}
 use native.Mathlib.Omega.{arith}
+use Rattle.records.specs.declared.Record.the-variants.{Order}
+use Rattle.jobfile.specs.Writer.{gather, bytes-of-all, order-record}
+use Rattle.jobfile.specs.Inner.Writer.{Continues}
+use Rattle.jobfile.proofs.Bytes.{all-one, continues-length, continues-none, continues-more, continues-room, room-one, order-some, order-none, continues-still}
 use borrow.Author.Needs.{needs}
-use Rattle.jobfile.specs.Write.{gather, spelled, order-asked}
-use Rattle.jobfile.specs.Inner.Write.{Continues}
-use Rattle.jobfile.proofs.Spelled.{continues-length, continues-none, continues-more, continues-room, order-spelled, order-none}
 use Rattle.jobfile.proofs.writer.put_followers.Statement.{statement}
 use Rattle.jobfile.proofs.writer.put_followers.Tie as tie
 
 abbrev Inv-loop : tie.InvT-loop
-Inv-loop size before out₀ at a next₀ b₀ out next b = (b ≤ size) × Continues at (spelled (gather b (order-asked before a))) out₀ out next
+Inv-loop size before job out₀ at a first next₀ b₀ out next b = (b ≤ size) × Continues at (bytes-of-all (gather b (order-record before a))) out₀ out next
 
 abbrev μ-loop : tie.MeasureT-loop
-μ-loop size before out₀ at a next₀ b₀ out next b = size - b
+μ-loop size before job out₀ at a first next₀ b₀ out next b = size - b
 
--- the test of the set, and the room where it passes
-held : (t : tie.Then1 Inv-loop μ-loop) → let p = t .before .before .before in has (getD (p .before .before .args .before .now) (p .loop .b) 0) (p .before .before .args .job .0) ≡ true
-unfolding has
-held t = eq-eqb _ _ (t .if1 .taken)
+-- the record, where the set has the job
+some : (t : tie.Then1 Inv-loop μ-loop) → let p = t .before .before .before .before in let a = p .before .before .args in
+    order-record (a .before .now) (a .job .0) (p .loop .b) ≡ Order (a .job .0) (p .loop .b) ∷ []
+some t =
+    let p = t .before .before .before .before in
+    let a = p .before .before .args in
+    order-some (a .before .now) (a .job .0) (p .loop .b) (sym (t .before .has .ensures) ∙ t .if1 .taken)
 
-free : (t : tie.Else1 Inv-loop μ-loop) → let p = t .before .before .before in has (getD (p .before .before .args .before .now) (p .loop .b) 0) (p .before .before .args .job .0) ≡ false
-unfolding has
-free t = ne-eqb _ _ (t .if1 .left)
+none : (t : tie.Else1 Inv-loop μ-loop) → let p = t .before .before .before .before in let a = p .before .before .args in
+    order-record (a .before .now) (a .job .0) (p .loop .b) ≡ []
+none t =
+    let p = t .before .before .before .before in
+    let a = p .before .before .args in
+    order-none (a .before .now) (a .job .0) (p .loop .b) (sym (t .before .has .ensures) ∙ t .if1 .left)
 
-room : (t : tie.Then1 Inv-loop μ-loop) → let p = t .before .before .before in p .loop .next + 6 ≤ length (p .loop .out)
-room t =
-    let p = t .before .before .before in
-    let h = continues-room _ _ _ _ _ _ _ (t .before .before .loop-test .taken) (p .before .before .pre .2) (p .loop .inv .1) in
-    rw (order-spelled _ _ _ (held t)) at h
+cast-first : tie.Need-cast-first Inv-loop μ-loop
+cast-first c = search needs
 
 loop-holds : tie.Need-loop-holds Inv-loop μ-loop
 loop-holds c = (search needs, continues-none _ _ _)
 
-mul-if1 : tie.Need-mul-if1 Inv-loop μ-loop
-mul-if1 c = search needs
+mul-has : tie.Need-mul-has Inv-loop μ-loop
+mul-has c = search needs
 
-element-copy-out-if1 : tie.Need-element-copy-out-if1 Inv-loop μ-loop
-element-copy-out-if1 c = search needs
+element-copy-out-has : tie.Need-element-copy-out-has Inv-loop μ-loop
+element-copy-out-has c = search needs
 
-shr-if1 : tie.Need-shr-if1 Inv-loop μ-loop
-shr-if1 c = search needs
+has-requires : tie.Need-has-requires Inv-loop μ-loop
+has-requires c κs = search needs
 
-cast-put-record : tie.Need-cast-put-record Inv-loop μ-loop
-cast-put-record c = search needs
+cast-second : tie.Need-cast-second Inv-loop μ-loop
+cast-second c = search needs
 
-cast-put-record-2 : tie.Need-cast-put-record-2 Inv-loop μ-loop
-cast-put-record-2 c = search needs
-
-put-record-requires : tie.Need-put-record-requires Inv-loop μ-loop
-put-record-requires c κs = room (c .before)
-
-add-next : tie.Need-add-next Inv-loop μ-loop
-add-next c = omega (arith, room (c .before .before .before .before), continues-length _ _ _ _ _ (c .before .before .before .before .before .before .before .loop .inv .1))
+put-requires : tie.Need-put-requires Inv-loop μ-loop
+put-requires c κs =
+    let t = c .before .before .before .before in
+    let p = t .before in
+    let room = continues-room _ _ _ _ _ _ _ (t .loop-test .taken) (p .before .before .pre .2) (p .loop .inv .1) in
+    room-one _ _ _ (rw (some (c .before)) at room)
 
 add-b : tie.Need-add-b Inv-loop μ-loop
 add-b c = search needs
@@ -69,12 +67,11 @@ loop-less c = search needs
 
 loop-again : tie.Need-loop-again Inv-loop μ-loop
 loop-again c =
-    let p = c .before .before .before in
-    let a = p .before .before .args in (
+    let p = c .before .before .before .before in (
       search needs,
       continues-more _ _ _ _ _ _ _ _ (p .loop .inv .1) (⊎-elim
-          (λ w. rw (order-spelled (a .before .now) (a .job .0) (p .loop .b) (held (record { before = c .before; if1 = w .0 }))) (record { stored = rw (w .5) (w .2 .ensures); next = w .6 }))
-          (λ w. rw (order-none (a .before .now) (a .job .0) (p .loop .b) (free (record { before = c .before; if1 = w .0 }))) (record { stored = w .1; next = w .2 ∙ sym (add-zero _) }))
+          (λ w. rw (some (record { before = c .before; if1 = w .0 }), all-one) (record { stored = rw (w .5) (w .2 .ensures .stored); next = rw (w .6) (w .2 .ensures .next) }))
+          (λ w. rw (none (record { before = c .before; if1 = w .0 })) (continues-still (w .1) (w .2)))
           (c .if1 .came)),
     )
 
@@ -83,8 +80,9 @@ same-length c = continues-length _ _ _ _ _ (c .before .loop .inv .1)
 
 returns : tie.Need-returns Inv-loop μ-loop
 returns c =
-    let e : c .before .loop .b ≡ c .before .before .before .args .size = omega arith in
-    rw (← e) (c .before .loop .inv .1)
+    let p = c .before in
+    let e : p .loop .b ≡ p .before .before .args .size = omega arith in
+    rw (← e) (p .loop .inv .1)
 
 pub put-followers-spec : {M : Type 1} → statement M
 put-followers-spec =
@@ -92,14 +90,13 @@ put-followers-spec =
     (tie.spec
     Inv-loop
     μ-loop
+    cast-first
     loop-holds
-    mul-if1
-    element-copy-out-if1
-    shr-if1
-    cast-put-record
-    cast-put-record-2
-    put-record-requires
-    add-next
+    mul-has
+    element-copy-out-has
+    has-requires
+    cast-second
+    put-requires
     add-b
     loop-less
     loop-again

@@ -4,14 +4,14 @@ use mathlib.Core.Path.{_≡_}
 use Prim.Native.Nat.{_-_, _≤_}
 use native.Mathlib.Omega.{arith}
 use borrow.Author.Needs.{needs}
-use Rattle.jobfile.specs.Write.{gather, spelled, followers-asked}
-use Rattle.jobfile.specs.Inner.Write.{Continues}
-use Rattle.jobfile.proofs.Spelled.{continues-length, continues-none, continues-more, continues-room}
+use Rattle.jobfile.specs.Writer.{gather, bytes-of-all, follower-records}
+use Rattle.jobfile.specs.Inner.Writer.{Continues}
+use Rattle.jobfile.proofs.Bytes.{continues-length, continues-none, continues-more, continues-room}
 use Rattle.jobfile.proofs.writer.put_orders.Statement.{statement}
 use Rattle.jobfile.proofs.writer.put_orders.Tie as tie
 
 abbrev Inv-loop : tie.InvT-loop
-Inv-loop size before out₀ at next₀ a₀ out next a = (a ≤ size) × Continues at (spelled (gather a (followers-asked size before))) out₀ out next
+Inv-loop size before out₀ at next₀ a₀ out next a = (a ≤ size) × Continues at (bytes-of-all (gather a (follower-records size before))) out₀ out next
 
 abbrev μ-loop : tie.MeasureT-loop
 μ-loop size before out₀ at next₀ a₀ out next a = size - a
@@ -40,8 +40,9 @@ same-length c = continues-length _ _ _ _ _ (c .before .loop .inv .1)
 
 returns : tie.Need-returns Inv-loop μ-loop
 returns c =
-    let e : c .before .loop .a ≡ c .before .before .before .args .size = omega arith in
-    rw e at (c .before .loop .inv .1 .stored)
+    let p = c .before in
+    let e : p .loop .a ≡ p .before .before .args .size = omega arith in
+    rw e at (p .loop .inv .1 .stored)
 
 pub put-orders-spec : {M : Type 1} → statement M
 put-orders-spec =

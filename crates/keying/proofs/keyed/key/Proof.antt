@@ -1,97 +1,38 @@
--- `keying::keyed::key` meets its contract: what the check told decides.
+-- `keying::keyed::key` meets its contract: checked, and then written.
 -- Assumes nothing.
-use borrow.Author.Needs.{needs}
-use borrow.Author.Tests.{lt-leb, le-leb}
 use native.Mathlib.Omega.{arith}
-use mathlib.Core.List.{List}
-use mathlib.Core.Path.{_≡_, sym, ap, _∙_}
-use Prim.Native.Nat.{ℕ}
-use lib.ListN.{length}
-use lib.Seq.{length-take-le}
-use Rattle.keying.specs.Text.{Meaning, reading, records}
-use Rattle.keying.specs.Keys.{answered, left}
-use Rattle.keying.specs.declared.entry.Record.{Record}
-use Rattle.keying.specs.declared.entry.Slip.the-variants.{TooLong}
-use Rattle.keying.specs.declared.keyed.Keyed.the-variants.{Mistake}
-use Rattle.keying.proofs.Walk.{sound-all, wrong-first, reading-few, as-read, too-long}
+use borrow.Author.Needs.{needs}
+use Rattle.keying.proofs.Outcome.{keys-wrong, keys-written}
 use Rattle.keying.proofs.keyed.key.Statement.{statement}
 use Rattle.keying.proofs.keyed.key.Tie as tie
 
-slice-aggregate-last : tie.Need-slice-aggregate-last
-slice-aggregate-last c = sym (length-take-le 262144 (c .before .before .before .before .args .text .now) (omega arith))
+walk-requires : tie.Need-walk-requires
+walk-requires c κs = search needs
 
-last-requires : tie.Need-last-requires
-last-requires c κs = search needs
+enum-known-mistake : tie.Need-enum-known-mistake
+enum-known-mistake c = search needs
+
+enum-told : tie.Need-enum-told
+enum-told c = search needs
+
+walk-requires-2 : tie.Need-walk-requires-2
+walk-requires-2 c κs = search needs
 
 returns : tie.Need-returns
-unfolding answered left
 returns c =
-    let a = c .before .before .before .before .before .args in
-    let e = too-long (a .text .now) (c .before .before .if1 .taken) in
-    record {
-      answer = ap (λ (n : ℕ). Mistake n TooLong) (c .last .ensures) ∙ sym (ap (λ (m : Meaning). answered m (a .out .now)) e);
-      bytes = sym (ap (λ (m : Meaning). left m (a .out .now)) e);
-    }
-
-check-requires : tie.Need-check-requires
-check-requires c κs = search needs
-
-enum-known-line : tie.Need-enum-known-line
-enum-known-line c = search needs
-
-enum-known-count : tie.Need-enum-known-count
-enum-known-count c = search needs
-
-told : (c : tie.After-count)
-    → (all : List Record) × (reading (c .before .before .before .before .before .before .args .text .now) ≡ records all) × (length all ≡ c .count .given .0 .0)
-told c = sound-all _ (c .count .given .0 .0) (sym (c .before .before .check .ensures) ∙ c .count .given .1)
-
-mul-needed : tie.Need-mul-needed
-mul-needed c = let t = told (c .before) in omega (arith, t .2, reading-few _ (t .0) (t .1))
-
-write-requires : tie.Need-write-requires
-write-requires c κs = let t = told (c .before .before .before) in record { all = t .0; sound = t .1; fits = omega (arith, t .2, c .before .if2 .taken) }
+    let w = c .before .before .before in
+    let s = w .before .before .before in
+    let a = s .args in
+    keys-wrong (a .text .now) (a .out .now) (a .out .now) _ (omega (arith, w .before .walk-arg .given)) _ (rw (c .before .mistake .given .1) at (w .walk .ensures))
 
 returns-2 : tie.Need-returns-2
-unfolding answered left
-returns-2 c = let k = c .before .before .before in
-    let e = as-read (k .before .before .before .before .args .text .now) (k .before .if1 .left) ∙ wrong-first _ _ _ (sym (k .check .ensures) ∙ c .before .line .given .1) in
-    record { answer = rw e; bytes = rw e }
-
-same-length : tie.Need-same-length
-same-length c = search needs
-
-returns-3 : tie.Need-returns-3
-unfolding answered left
-returns-3 c = let k = c .before .before .before .before .before .before in
-    let r = as-read (k .before .before .before .before .before .before .args .text .now) (k .before .before .before .if1 .left) in
-    let t = told k in
-    record {
-      answer = rw (r, t .1, t .2) (simp (le-leb _ _ (c .before .before .before .before .if2 .taken)));
-      bytes = rw r (c .before .before .write .ensures);
-    }
-
-returns-4 : tie.Need-returns-4
-unfolding answered left
-returns-4 c = let k = c .before .before in
-    let r = as-read (k .before .before .before .before .before .before .args .text .now) (k .before .before .before .if1 .left) in
-    let t = told k in
-    let f = lt-leb _ _ (c .if2 .left) in
-    record { answer = rw (r, t .1, t .2) (simp f); bytes = rw (r, t .1, t .2) (simp f) }
+returns-2 c =
+    let w = c .before .before .before .before in
+    let s = w .before .before .before in
+    let a = s .args in
+    keys-written (a .text .now) (a .out .now) _ _ (omega (arith, w .before .walk-arg .given)) _ _ (rw (c .before .before .enum-told .given .1) at (w .walk .ensures)) (c .walk2 .ensures)
 
 pub key-spec : {M : Type 1} → statement M
 key-spec =
     tie.close
-    (tie.spec
-    slice-aggregate-last
-    last-requires
-    returns
-    check-requires
-    enum-known-line
-    enum-known-count
-    mul-needed
-    write-requires
-    returns-2
-    same-length
-    returns-3
-    returns-4)
+    (tie.spec walk-requires enum-known-mistake enum-told walk-requires-2 returns returns-2)

@@ -10,16 +10,16 @@ use lib.ListN.{length, length-set, getD}
 use lib.Seq.{getD-set-same, getD-set-other}
 use Rattle.schedule.proofs.Tests.{le-or-lt}
 use Rattle.planner.specs.Inner.Chains.{joined-of}
-use Rattle.planner.proofs.Join.{joined-same, rows-are}
+use Rattle.planner.proofs.Pending.{joined-same, rows-are}
 use Rattle.planner.proofs.chains.link.Statement.{statement}
 use Rattle.planner.proofs.chains.link.Tie as tie
 
 abbrev Inv-loop : tie.InvT-loop
-Inv-loop size rows₀ b more y₀ rows y =
-    (y ≤ size) × (length rows ≡ 64) × ((k : ℕ) → k < y → getD rows k 0 ≡ joined-of (getD rows₀ k 0) k (b .0) more) × ((k : ℕ) → y ≤ k → getD rows k 0 ≡ getD rows₀ k 0)
+Inv-loop size rows₀ pending y₀ rows y =
+    (y ≤ size) × (length rows ≡ 64) × ((k : ℕ) → k < y → getD rows k 0 ≡ joined-of (getD rows₀ k 0) k pending) × ((k : ℕ) → y ≤ k → getD rows k 0 ≡ getD rows₀ k 0)
 
 abbrev μ-loop : tie.MeasureT-loop
-μ-loop size rows₀ b more y₀ rows y = size - y
+μ-loop size rows₀ pending y₀ rows y = size - y
 
 loop-holds : tie.Need-loop-holds Inv-loop μ-loop
 loop-holds c = (search needs, c .pre .0, below-none _, (λ k h. refl))
@@ -62,9 +62,9 @@ returns : tie.Need-returns Inv-loop μ-loop
 returns c =
     let p = c .before in
     let start = p .before in
-    rows-are _ _ _ _ (p .loop .inv .1)
+    rows-are _ _ _ (p .loop .inv .1)
     (λ y h. ⊎-elim
-    (λ (l : start .args .size ≤ y). p .loop .inv .3 y (omega arith) ∙ sym (joined-same _ y _ _ (start .pre .3 y l) (λ e. omega arith)))
+    (λ (l : start .args .size ≤ y). p .loop .inv .3 y (omega arith) ∙ sym (joined-same _ y _ (start .pre .3 y l) (λ e. omega arith)))
     (λ l. p .loop .inv .2 y (omega arith)) (le-or-lt (start .args .size) y))
 
 pub link-spec : {M : Type 1} → statement M

@@ -4,8 +4,8 @@ use mathlib.Core.Logic.{inl, inr}
 use mathlib.Core.Path.{refl, sym, _∙_}
 use native.Mathlib.Omega.{arith}
 use borrow.Author.Tests.{not-false}
-use Rattle.planner.proofs.Join.{rows-long, joined-links}
-use Rattle.planner.proofs.Step.{true-T}
+use Rattle.planner.proofs.Pending.{rows-long, joined-links}
+use Rattle.planner.proofs.Growing.{true-T}
 use borrow.Author.Needs.{needs}
 use Rattle.planner.proofs.list.follow.Statement.{statement}
 use Rattle.planner.proofs.list.follow.Tie as tie
@@ -34,7 +34,7 @@ link-requires c κs = search needs
 returns : tie.Need-returns
 returns c =
     let start = c .before .before .before .before .before .before .before in
-    rw (c .link .ensures) (inr (rows-long _ _ _, joined-links _ _ _ _ (start .pre .0) (omega arith) (c .before .before .with .ensures)))
+    rw (c .link .ensures) (inr (rows-long _ _, joined-links _ _ _ (start .pre .0) (omega arith) (omega arith) (c .before .before .with .ensures)))
 
 returns-2 : tie.Need-returns-2
 returns-2 c = inl (true-T _ (sym (c .before .has .ensures) ∙ not-false _ (c .if1 .left)), refl)

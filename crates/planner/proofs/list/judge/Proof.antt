@@ -1,16 +1,19 @@
 -- `planner::list::judge` meets its contract: each return by the checks that led there.
 -- Assumes nothing.
 use mathlib.Core.Logic.{inl, inr, ⊎-elim}
-use mathlib.Core.Path.{_≡_, refl, ap}
-use Prim.Native.Nat.{_/_}
+use mathlib.Core.Path.{_≡_, refl}
+use Prim.Native.Nat.{_/_, _≤_}
+use native.Mathlib.Nat.{not-le-of-lt}
 use native.Mathlib.Omega.{arith}
 use borrow.Author.Needs.{needs}
 use lib.ListN.{length}
-use Rattle.planner.specs.Unless.{refused, passed, first, clear}
-use Rattle.planner.specs.Judged.{Misshapen, turned-down}
+use Rattle.planner.specs.List.{Misshapen}
+use Rattle.planner.specs.Requests.{times-checks}
 use Rattle.planner.specs.Inner.List.{Spells}
+use Rattle.refusal.proofs.Table.{refuses-each}
+use Rattle.refusal.specs.Table.{refused}
 use Rattle.planner.proofs.Pairs.{spells-none}
-use Rattle.planner.proofs.Whole.{none-at, number-is, Sound, sound-settleable, settles-judged}
+use Rattle.planner.proofs.ListSound.{none-at, number-at, Sound, sound-settleable, settles-says}
 use Rattle.planner.proofs.list.judge.Statement.{statement}
 use Rattle.planner.proofs.list.judge.Tie as tie
 
@@ -28,22 +31,24 @@ sound c = record {
   free = none-at _ _ _ (c .before .looping-pair .ensures .first) (c .if7 .left);
 }
 
-spells : (c : tie.Else7) → let p = c .before .before .before .before .before .before .before .before .before .before .before .before .before .before .before .args .pairs .now in Spells p (length p / 2) (c .before .looping-pair .last .1 .1 .0)
+spells : (c : tie.Else7) → let p = c .before .before .before .before .before .before .before .before .before .before .before .before .before .before .before .args .pairs .now in
+    Spells p (length p / 2) (c .before .looping-pair .last .1 .1 .0)
 spells c =
-    let e : c .before .looping-pair .result ≡ length (c .before .before .before .before .before .before .before .before .before .before .before .before .before .before .before .args .pairs .now) / 2 = omega (arith, c .before .looping-pair .ensures .first .within, c .if7 .left) in
+    let e : c .before .looping-pair .result ≡ length (c .before .before .before .before .before .before .before .before .before .before .before .before .before .before .before .args .pairs .now) / 2
+    = omega (arith, c .before .looping-pair .ensures .first .within, c .if7 .left) in
     rw e at (c .before .looping-pair .ensures .spells)
 
 returns : tie.Need-returns
-returns c = refused (inl (c .if1 .taken)) refl
+returns c = (omega arith, refused _ _ (inl (inl (inl (c .if1 .taken), refl, refl))) refl)
 
 returns-2 : tie.Need-returns-2
-returns-2 c = refused (inr (inl (c .if2 .taken))) refl
+returns-2 c = (omega arith, refused _ _ (inl (inl (inr (inl (c .if2 .taken)), refl, refl))) refl)
 
 returns-3 : tie.Need-returns-3
-returns-3 c = refused (inr (inr (c .if3 .taken))) refl
+returns-3 c = (omega arith, refused _ _ (inl (inl (inr (inr (c .if3 .taken)), refl, refl))) refl)
 
 returns-4 : tie.Need-returns-4
-returns-4 c = passed (shape (c .before)) (refused (c .if4 .taken) refl)
+returns-4 c = (omega arith, refused _ _ (inl (inr (shape (c .before), inl (c .if4 .taken, refl, refl)))) refl)
 
 unsound-job-requires : tie.Need-unsound-job-requires
 unsound-job-requires c κs = search needs
@@ -65,11 +70,12 @@ fault-requires c κs = search needs
 
 returns-5 : tie.Need-returns-5
 returns-5 c =
-    let a = c .before .before .before .before .before .before .before .before .before .before .before .before .before .args in
     let u = c .before .before .before .before .unsound-job in
     let l = c .before .before .before .if5 .taken in
-    passed (shape (c .before .before .before .before .before .before)) (passed (λ g. omega arith) (first (u .result .0) l (u .ensures .clear) (u .ensures .at l)
-    (ap (λ n. turned-down (a .latest .now) n (u .result .0)) (number-is _ _ _ (c .fault .ensures) (u .ensures .at l)))))
+    let x = number-at _ _ _ _ _ _ (c .fault .ensures) (u .ensures .found l .1) in (
+      refuses-each (λ n. 1 ≤ n) (times-checks _ _ _) _ _ (omega arith, omega arith) x,
+      refused _ _ (inl (inr (shape (c .before .before .before .before .before .before), inr ((λ g. omega arith), inl (u .result .0, l, u .ensures .before, x))))) refl,
+    )
 
 unheld-pair-requires : tie.Need-unheld-pair-requires
 unheld-pair-requires c κs = search needs
@@ -77,10 +83,19 @@ unheld-pair-requires c κs = search needs
 returns-6 : tie.Need-returns-6
 returns-6 c =
     let u = c .before .unheld-pair in
-    let l = c .if6 .taken in
-    passed (shape (c .before .before .before .before .before)) (passed (λ g. omega arith)
-    (clear (none-at _ _ _ (c .before .before .before .unsound-job .ensures) (c .before .before .if5 .left))
-    (first (u .result) l (u .ensures .clear) (u .ensures .at l) refl)))
+    let l = c .if6 .taken in (
+      omega arith,
+      refused _ _ (inl (inr (
+        shape (c .before .before .before .before .before),
+        inr (
+          (λ g. omega arith),
+          inr (
+            none-at _ _ _ (c .before .before .before .unsound-job .ensures) (c .before .before .if5 .left),
+            inl (u .result, l, u .ensures .before, (u .ensures .found l .1 .0, refl, refl)),
+          ),
+        ),
+      ))) refl,
+    )
 
 looping-pair-requires : tie.Need-looping-pair-requires
 looping-pair-requires c κs =
@@ -89,11 +104,22 @@ looping-pair-requires c κs =
 returns-7 : tie.Need-returns-7
 returns-7 c =
     let u = c .before .looping-pair in
-    let l = c .if7 .taken in
-    passed (shape (c .before .before .before .before .before .before .before .before)) (passed (λ g. omega arith)
-    (clear (none-at _ _ _ (c .before .before .before .before .before .before .unsound-job .ensures) (c .before .before .before .before .before .if5 .left))
-    (clear (none-at _ _ _ (c .before .before .before .before .unheld-pair .ensures) (c .before .before .before .if6 .left))
-    (first (u .result) l (u .ensures .first .clear) (u .ensures .first .at l) refl))))
+    let l = c .if7 .taken in (
+      omega arith,
+      refused _ _ (inl (inr (
+        shape (c .before .before .before .before .before .before .before .before),
+        inr (
+          (λ g. omega arith),
+          inr (
+            none-at _ _ _ (c .before .before .before .before .before .before .unsound-job .ensures) (c .before .before .before .before .before .if5 .left),
+            inr (
+              none-at _ _ _ (c .before .before .before .before .unheld-pair .ensures) (c .before .before .before .if6 .left),
+              (u .result, l, u .ensures .first .before, (u .ensures .first .found l .1 .0, refl, refl)),
+            ),
+          ),
+        ),
+      ))) refl,
+    )
 
 settle-requires : tie.Need-settle-requires
 settle-requires c κs = sound-settleable _ _ _ _ (sound (c .before .before)) (spells (c .before .before)) _ (search needs)
@@ -103,9 +129,11 @@ same-length c = search needs
 
 returns-8 : tie.Need-returns-8
 returns-8 c =
-    let s = sound (c .before .before .before .before .before) in
-    passed (shape (c .before .before .before .before .before .before .before .before .before .before .before .before .before)) (passed (λ g. omega arith)
-    (clear (s .jobs) (clear (s .held .below) (clear (s .free) (settles-judged _ _ _ _ s (spells (c .before .before .before .before .before)) _ _ _ (c .before .before .settle .ensures))))))
+    let e = c .before .before .before .before .before in
+    let a = e .before .before .before .before .before .before .before .before .before .before .before .before .before .before .before .args in
+    let s = sound e in
+    settles-says (a .starts .now) (a .deadlines .now) (a .pairs .now) _ s (spells e) (a .latest .now) (c .before .before .settle .last .1 .1 .1 .0) (c .before .before .settle .result)
+    (shape (e .before .before .before .before .before .before .before .before), ((λ g. not-le-of-lt g (s .few)), (s .jobs, (s .held .below, s .free)))) (c .before .before .settle .ensures)
 
 pub judge-spec : {M : Type 1} → statement M
 judge-spec =

@@ -1,20 +1,21 @@
 -- `planner::list::looping_pair` meets its contract. The invariant: no pair passed closes a loop, and the rows spell the chains of those passed.
 -- Assumes nothing.
 use Prim.Native.Nat.{ℕ, _-_, _/_, _≤_, _<_}
-use mathlib.Core.Path.{sym, _∙_}
+use mathlib.Core.Path.{refl, sym, _∙_}
 use native.Mathlib.Omega.{arith}
 use borrow.Author.Count.{below-none, below-more}
 use borrow.Author.Needs.{needs}
 use lib.ListN.{length}
-use Rattle.planner.specs.Judged.{Looping}
+use Rattle.planner.specs.List.{order-at}
+use Rattle.refusal.specs.Table.{Clear}
 use Rattle.planner.specs.Inner.List.{Spells}
-use Rattle.planner.proofs.Step.{true-T, false-T}
+use Rattle.planner.proofs.Growing.{true-T, false-T}
 use Rattle.planner.proofs.Pairs.{held-both, looping-is, spells-more, spells-held}
 use Rattle.planner.proofs.list.looping_pair.Statement.{statement}
 use Rattle.planner.proofs.list.looping_pair.Tie as tie
 
 abbrev Inv-loop : tie.InvT-loop
-Inv-loop size pairs rows₀ count p₀ rows p = (p ≤ length pairs / 2) × ((j : ℕ) → j < p → Looping pairs j → ⊥) × Spells pairs p rows
+Inv-loop size pairs rows₀ count p₀ rows p = (p ≤ length pairs / 2) × ((j : ℕ) → j < p → Clear (order-at pairs j)) × Spells pairs p rows
 
 abbrev μ-loop : tie.MeasureT-loop
 μ-loop size pairs rows₀ count p₀ rows p = length pairs / 2 - p
@@ -50,9 +51,16 @@ returns c =
     record {
       first = record {
         within = search needs;
-        clear = p .loop .inv .1;
-        at = λ l. looping-is _ _ _ _ _ (p .loop .inv .2) (c .before .before .before .before .named .ensures) (c .before .before .before .named2 .ensures) .0
-            (true-T _ (sym (c .before .closes .ensures) ∙ c .if1 .taken));
+        before = p .loop .inv .1;
+        found = λ l. (
+          6,
+          (
+            looping-is _ _ _ _ _ (p .loop .inv .2) (c .before .before .before .before .named .ensures) (c .before .before .before .named2 .ensures) .0
+                (true-T _ (sym (c .before .closes .ensures) ∙ c .if1 .taken)),
+            refl,
+            refl,
+          ),
+        );
       };
       spells = p .loop .inv .2;
     }
@@ -81,7 +89,7 @@ loop-again c =
     )
 
 returns-2 : tie.Need-returns-2 Inv-loop μ-loop
-returns-2 c = record { first = record { within = search needs; clear = c .before .loop .inv .1; at = λ l. absurd (omega arith) }; spells = c .before .loop .inv .2 }
+returns-2 c = record { first = record { within = search needs; before = c .before .loop .inv .1; found = λ l. absurd (omega arith) }; spells = c .before .loop .inv .2 }
 
 pub looping-pair-spec : {M : Type 1} → statement M
 looping-pair-spec =

@@ -5,13 +5,15 @@ use native.Mathlib.Omega.{arith}
 use borrow.Author.Count.{below-none, below-more}
 use borrow.Author.Needs.{needs}
 use lib.ListN.{length}
+use mathlib.Core.Path.{refl}
 use mathlib.Core.Logic.{inl, inr, ⊎-elim}
-use Rattle.planner.specs.Judged.{Unheld}
+use Rattle.planner.specs.List.{pair-at}
+use Rattle.refusal.specs.Table.{Clear}
 use Rattle.planner.proofs.list.unheld_pair.Statement.{statement}
 use Rattle.planner.proofs.list.unheld_pair.Tie as tie
 
 abbrev Inv-loop : tie.InvT-loop
-Inv-loop pairs size count p₀ p = (p ≤ length pairs / 2) × ((j : ℕ) → j < p → Unheld size pairs j → ⊥)
+Inv-loop pairs size count p₀ p = (p ≤ length pairs / 2) × ((j : ℕ) → j < p → Clear (pair-at size pairs j))
 
 abbrev μ-loop : tie.MeasureT-loop
 μ-loop pairs size count p₀ p = length pairs / 2 - p
@@ -28,7 +30,7 @@ named-requires c κs = search needs
 returns : tie.Need-returns Inv-loop μ-loop
 returns c =
     let p = c .before .before .before .before .loop in
-    record { within = search needs; clear = p .inv .1; at = λ l. inl (omega arith) }
+    record { within = search needs; before = p .inv .1; found = λ l. (5, (inl (omega arith), refl, refl)) }
 
 mul-named-2 : tie.Need-mul-named-2 Inv-loop μ-loop
 mul-named-2 c = search needs
@@ -42,7 +44,7 @@ named-requires-2 c κs = search needs
 returns-2 : tie.Need-returns-2 Inv-loop μ-loop
 returns-2 c =
     let p = c .before .before .before .before .before .before .before .loop in
-    record { within = search needs; clear = p .inv .1; at = λ l. inr (omega arith) }
+    record { within = search needs; before = p .inv .1; found = λ l. (5, (inr (omega arith), refl, refl)) }
 
 add-p : tie.Need-add-p Inv-loop μ-loop
 add-p c = search needs
@@ -56,7 +58,7 @@ loop-again c =
     (search needs, below-more _ _ (p .inv .1) (λ u. ⊎-elim (λ x. omega arith) (λ x. omega arith) u))
 
 returns-3 : tie.Need-returns-3 Inv-loop μ-loop
-returns-3 c = record { within = search needs; clear = c .before .loop .inv .1; at = λ l. absurd (omega arith) }
+returns-3 c = record { within = search needs; before = c .before .loop .inv .1; found = λ l. absurd (omega arith) }
 
 pub unheld-pair-spec : {M : Type 1} → statement M
 unheld-pair-spec =

@@ -4,13 +4,14 @@ use Prim.Native.Nat.{ℕ, _<_, _-_, _≤_}
 use native.Mathlib.Omega.{arith}
 use borrow.Author.Count.{below-none, below-more}
 use borrow.Author.Needs.{needs}
-use lib.ListN.{length, getD}
-use Rattle.planner.specs.Judged.{Unsound}
+use lib.ListN.{length}
+use Rattle.planner.specs.List.{job-at}
+use Rattle.refusal.specs.Table.{Clear}
 use Rattle.planner.proofs.list.unsound_job.Statement.{statement}
 use Rattle.planner.proofs.list.unsound_job.Tie as tie
 
 abbrev Inv-loop : tie.InvT-loop
-Inv-loop starts deadlines i₀ i = (i ≤ length starts) × ((j : ℕ) → j < i → Unsound (getD starts j 0) (getD deadlines j 0) → ⊥)
+Inv-loop starts deadlines i₀ i = (i ≤ length starts) × ((j : ℕ) → j < i → Clear (job-at starts deadlines j))
 
 abbrev μ-loop : tie.MeasureT-loop
 μ-loop starts deadlines i₀ i = length starts - i
@@ -36,7 +37,7 @@ fault-requires c κs = search needs
 returns : tie.Need-returns Inv-loop μ-loop
 returns c =
     let p = c .before .before .before .before .before .loop in
-    record { within = search needs; clear = p .inv .1; at = λ l. c .before .fault .ensures .some (c .if1 .taken) .0 }
+    record { within = search needs; before = p .inv .1; found = λ l. (c .before .fault .result, c .before .fault .ensures .some (c .if1 .taken) _) }
 
 add-i : tie.Need-add-i Inv-loop μ-loop
 add-i c = search needs
@@ -47,10 +48,10 @@ loop-less c = search needs
 loop-again : tie.Need-loop-again Inv-loop μ-loop
 loop-again c =
     let p = c .before .before .before .before .before .loop in
-    (search needs, below-more _ _ (p .inv .1) (c .before .fault .ensures .none (c .if1 .left)))
+    (search needs, below-more _ _ (p .inv .1) (c .before .fault .ensures .none (c .if1 .left) 0))
 
 returns-2 : tie.Need-returns-2 Inv-loop μ-loop
-returns-2 c = record { within = search needs; clear = c .before .loop .inv .1; at = λ l. absurd (omega arith) }
+returns-2 c = record { within = search needs; before = c .before .loop .inv .1; found = λ l. absurd (omega arith) }
 
 pub unsound-job-spec : {M : Type 1} → statement M
 unsound-job-spec =

@@ -1,17 +1,13 @@
 -- `line::refused` meets its contract: no line for 0, else the pattern.
 -- Assumes nothing.
-use native.Mathlib.Omega.{arith}
 use borrow.Author.Needs.{needs}
 use borrow.Author.Tests.{eq-eqb, ne-eqb}
-use Rattle.report.proofs.Put.{puts-none}
+use Rattle.text.proofs.Putting.{puts-none}
 use Rattle.report.proofs.line.refused.Statement.{statement}
 use Rattle.report.proofs.line.refused.Tie as tie
 
 returns : tie.Need-returns
-returns c =
-    let e = eq-eqb _ 0 (c .if1 .taken) in
-    let r = rw e at (c .before .before .pre) in
-    rw e (puts-none _ _ (omega (arith, r .fits)))
+returns c = rw (eq-eqb _ 0 (c .if1 .taken)) (puts-none _ _)
 
 slice-aggregate-fill : tie.Need-slice-aggregate-fill
 slice-aggregate-fill c = search needs
@@ -20,7 +16,7 @@ slice-aggregate-fill-2 : tie.Need-slice-aggregate-fill-2
 slice-aggregate-fill-2 c = search needs
 
 fill-requires : tie.Need-fill-requires
-fill-requires c κs = rw (ne-eqb _ 0 (c .before .before .before .if1 .left)) at (c .before .before .before .before .before .pre)
+fill-requires c κs = search needs
 
 same-length : tie.Need-same-length
 same-length c = search needs

@@ -1,18 +1,13 @@
 -- `line::slot` meets its contract: no line, or one of three patterns by which core is idle.
 -- Assumes nothing.
-use native.Mathlib.Omega.{arith}
 use borrow.Author.Needs.{needs}
 use borrow.Author.Tests.{eq-eqb, ne-eqb}
-use Rattle.report.proofs.Put.{puts-none}
+use Rattle.text.proofs.Putting.{puts-none}
 use Rattle.report.proofs.line.slot.Statement.{statement}
 use Rattle.report.proofs.line.slot.Tie as tie
 
 returns : tie.Need-returns
-returns c =
-    let e = eq-eqb _ 255 (c .before .if1 .taken) in
-    let f = eq-eqb _ 255 (c .if2 .taken) in
-    let r = rw (e, f) at (c .before .before .before .pre) in
-    rw (e, f) (puts-none _ _ (omega (arith, r .fits)))
+returns c = rw (eq-eqb _ 255 (c .before .if1 .taken), eq-eqb _ 255 (c .if2 .taken)) (puts-none _ _)
 
 slice-aggregate-fill : tie.Need-slice-aggregate-fill
 slice-aggregate-fill c = search needs
@@ -21,7 +16,7 @@ slice-aggregate-fill-2 : tie.Need-slice-aggregate-fill-2
 slice-aggregate-fill-2 c = search needs
 
 fill-requires : tie.Need-fill-requires
-fill-requires c κs = rw (eq-eqb _ 255 (c .before .before .before .before .if1 .taken), ne-eqb _ 255 (c .before .before .before .if2 .left)) at (c .before .before .before .before .before .before .pre)
+fill-requires c κs = search needs
 
 same-length : tie.Need-same-length
 same-length c = search needs
@@ -36,7 +31,7 @@ slice-aggregate-fill-4 : tie.Need-slice-aggregate-fill-4
 slice-aggregate-fill-4 c = search needs
 
 fill-requires-2 : tie.Need-fill-requires-2
-fill-requires-2 c κs = rw (ne-eqb _ 255 (c .before .before .before .before .if1 .left), eq-eqb _ 255 (c .before .before .before .if3 .taken)) at (c .before .before .before .before .before .before .pre)
+fill-requires-2 c κs = search needs
 
 same-length-2 : tie.Need-same-length-2
 same-length-2 c = search needs
@@ -51,7 +46,7 @@ slice-aggregate-fill-6 : tie.Need-slice-aggregate-fill-6
 slice-aggregate-fill-6 c = search needs
 
 fill-requires-3 : tie.Need-fill-requires-3
-fill-requires-3 c κs = rw (ne-eqb _ 255 (c .before .before .before .before .if1 .left), ne-eqb _ 255 (c .before .before .before .if3 .left)) at (c .before .before .before .before .before .before .pre)
+fill-requires-3 c κs = search needs
 
 same-length-3 : tie.Need-same-length-3
 same-length-3 c = search needs

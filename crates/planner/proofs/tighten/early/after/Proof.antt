@@ -1,10 +1,12 @@
 -- `planner::tighten::early::after` meets its contract.
 -- Assumes nothing.
 use mathlib.Core.Logic.{⊎-elim}
+use Prim.Native.Nat.{_<_}
 use native.Mathlib.Omega.{arith}
+use lib.Dec.{T}
 use Rattle.schedule.specs.Count.{count}
-use Rattle.planner.specs.Sets.{has}
-use Rattle.planner.proofs.Bits.{rest-walk, rest-less}
+use Rattle.sets.specs.Sets.{has}
+use Rattle.sets.proofs.Bits.{rest-less}
 use Rattle.planner.proofs.TightenEarly.{Reached, reached-start, reached-same, reached-more, reached-after}
 use borrow.Author.Needs.{needs}
 use Rattle.planner.proofs.tighten.early.after.Statement.{statement}
@@ -16,42 +18,41 @@ Inv-loop start set early time₀ rest₀ time rest = Reached start set early tim
 abbrev μ-loop : tie.MeasureT-loop
 μ-loop start set early time₀ rest₀ time rest = count 64 (has rest)
 
+-- the first job of what is left
+met : (c : tie.After-first Inv-loop μ-loop) → (c .first .result .0 < 64) × T (has (c .before .before .loop .rest) (c .first .result .0))
+met c = c .first .ensures .met (c .before .loop-test .taken)
+
 loop-holds : tie.Need-loop-holds Inv-loop μ-loop
 loop-holds c = reached-start _ _ _
 
 first-requires : tie.Need-first-requires Inv-loop μ-loop
 first-requires c κs = search needs
 
-mul-wide : tie.Need-mul-wide Inv-loop μ-loop
-mul-wide c = search needs
-
-element-copy-out-wide : tie.Need-element-copy-out-wide Inv-loop μ-loop
-element-copy-out-wide c = search needs
-
-wide-requires : tie.Need-wide-requires Inv-loop μ-loop
-wide-requires c κs = search needs
+time-at-requires : tie.Need-time-at-requires Inv-loop μ-loop
+time-at-requires c κs = met c .0
 
 add-time : tie.Need-add-time Inv-loop μ-loop
-add-time c = omega (arith, c .before .wide .ensures)
+add-time c = omega (arith, c .before .time-at .ensures)
 
 rest-requires : tie.Need-rest-requires Inv-loop μ-loop
 rest-requires c κs = search needs
 
 loop-less : tie.Need-loop-less Inv-loop μ-loop
 loop-less c =
-    let f = c .before .before .before .before .first in
-    rest-less _ _ _ (f .ensures .0) (f .ensures .1) (f .ensures .3) (c .rest .ensures)
+    let f = c .before .before .before in
+    rest-less _ _ _ (f .before .loop-test .taken) (f .first .ensures) (c .rest .ensures)
 
 loop-again : tie.Need-loop-again Inv-loop μ-loop
 loop-again c =
-    let p = c .before .before .before .before .before .before in
+    let p = c .before .before .before .before .before in
     let a = p .before .args in
-    let f = c .before .before .before .before .first in
-    let r = rest-walk (p .loop .rest) (c .rest .result) (f .result .0) (f .ensures .3) (c .rest .ensures) in
-    let h = c .before .before .wide .ensures .0 in
+    let f = c .before .before .before .first in
+    let t = met (c .before .before .before) .1 in
+    let r = c .rest .ensures (f .result .0) (f .ensures) in
+    let h = c .before .before .time-at .ensures .0 in
     ⊎-elim
-    (λ w. rw (w .1, h) (reached-more (a .start) (a .set) (a .early .now) (p .loop .time) (p .loop .rest) (p .loop .inv) (f .result .0) (c .rest .result) r (f .ensures .1) (omega (arith, h, w .0 .taken))))
-    (λ w. rw (w .1) (reached-same (a .start) (a .set) (a .early .now) (p .loop .time) (p .loop .rest) (p .loop .inv) (f .result .0) (c .rest .result) r (f .ensures .1) (omega (arith, h, w .0 .left))))
+    (λ w. rw (w .1, h) (reached-more (a .start) (a .set) (a .early .now) (p .loop .time) (p .loop .rest) (p .loop .inv) (f .result .0) (c .rest .result) r t (omega (arith, h, w .0 .taken))))
+    (λ w. rw (w .1) (reached-same (a .start) (a .set) (a .early .now) (p .loop .time) (p .loop .rest) (p .loop .inv) (f .result .0) (c .rest .result) r t (omega (arith, h, w .0 .left))))
     (c .before .if1 .came)
 
 returns : tie.Need-returns Inv-loop μ-loop
@@ -65,9 +66,7 @@ after-spec =
     μ-loop
     loop-holds
     first-requires
-    mul-wide
-    element-copy-out-wide
-    wide-requires
+    time-at-requires
     add-time
     rest-requires
     loop-less

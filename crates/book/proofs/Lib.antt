@@ -1,0 +1,8 @@
+-- The laws of a book in lent memory; the proof of a function stands in the folder of its name.
+
+-- the parts of a row
+pub mod Parts
+-- a list has one book
+pub mod Same
+-- the empty book
+pub mod Empty

@@ -1,0 +1,2 @@
+-- What a book is. "01" is the scope.
+pub mod Told

@@ -1,0 +1,4 @@
+-- What the private functions promise to each other. Nobody has to believe these: the public promises are proved from them.
+pub mod Choice
+pub mod Layout
+pub mod Bytes

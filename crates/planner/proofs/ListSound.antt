@@ -1,0 +1,105 @@
+-- A whole list: what its checks leave, one after the other.
+-- Assumes nothing.
+use mathlib.Core.List.{List}
+use mathlib.Core.Logic.{inl, inr}
+use mathlib.Core.Path.{_≡_, refl, sym}
+use Prim.Native.Nat.{ℕ, _/_, _≤_, _<_}
+use native.Mathlib.Omega.{arith}
+use lib.ListN.{length}
+use Rattle.schedule.specs.Jobs.{Jobs}
+use Rattle.schedule.specs.Times.{Earliest, Latest}
+use Rattle.schedule.specs.Listed.{Listed, Looped, Formed, Reads, written}
+use Rattle.schedule.specs.Book.{Holds}
+use Rattle.schedule.proofs.Tests.{le-by}
+use Rattle.schedule.proofs.Early.{exists-earliest}
+use Rattle.schedule.proofs.Chains.{reads-closed, reads-loopless}
+use Rattle.schedule.proofs.Renumber.{latest-along}
+use Rattle.book.specs.Told.{jobs-in, row-in}
+use Rattle.refusal.specs.Table.{Checks, Clear, Refuses, Table, refused, passed}
+use Rattle.planner.specs.Requests.{times-checks, plan-check}
+use Rattle.planner.specs.List.{list-of, job-at, order-at, rows-checks, SoundRows, Judged, judged, TurnedDown, Fitted, Judges}
+use Rattle.planner.specs.Inner.List.{First, Held, Spells, Settleable, Settles}
+use Rattle.schedule.proofs.Same.{reads-one, plan-one}
+use Rattle.schedule.proofs.Onward.{holds-planned}
+use Rattle.refusal.specs.declared.Answer.{Answer}
+use Rattle.planner.specs.Inner.Times.{Numbers}
+use Rattle.refusal.specs.Says.{Says}
+use Rattle.refusal.proofs.Table.{refuses-not-clear, table-then}
+use Rattle.refusal.proofs.Says.{says-more}
+use Rattle.planner.proofs.Pairs.{pairs-held, pairs-loopless, spells-held}
+
+-- ---- a check of every place that found none
+pub none-at : (n : ℕ) (at : ℕ → Checks) (p : ℕ) → First n at p → n ≤ p → (i : ℕ) → i < n → Clear (at i)
+none-at n at p f l i h = f .before i (omega arith)
+
+-- a job whose times are not clear has a number
+pub number-at : (start deadline r place n v : ℕ) → Numbers start deadline r → Refuses (times-checks place start deadline) n v → Refuses (times-checks place start deadline) r place
+number-at start deadline r place n v x y = x .some (λ e. refuses-not-clear (times-checks place start deadline) n v y (x .none e place)) place
+
+-- ---- what the checks before the last leave
+pub record Sound (starts deadlines pairs : List ℕ) : Type 0 where
+  pub even : length starts ≡ length deadlines
+  pub few : length starts ≤ 64
+  pub jobs : (i : ℕ) → i < length starts → Clear (job-at starts deadlines i)
+  pub held : Held (length starts) pairs
+  pub free : (p : ℕ) → p < length pairs / 2 → Clear (order-at pairs p)
+
+module _ (starts deadlines pairs : List ℕ) (s : Sound starts deadlines pairs) where
+  pub formed : Formed (list-of starts deadlines pairs)
+  formed = record { even = sym (s .even); held = pairs-held (length starts) pairs (s .held) (length pairs / 2) (omega arith) }
+
+  pub loopless : Looped (list-of starts deadlines pairs) → ⊥
+  loopless x = pairs-loopless pairs (length pairs / 2) (s .free) (x .0) (x .1)
+
+module _ (starts deadlines pairs before : List ℕ) (s : Sound starts deadlines pairs) (spells : Spells pairs (length pairs / 2) before) where
+  abbrev L : Listed
+  L = list-of starts deadlines pairs
+
+  abbrev J : Jobs
+  J = jobs-in (length starts) starts before
+
+  free : Looped L → ⊥
+  free = loopless starts deadlines pairs s
+
+  reads : Reads L J
+  reads = record { size = refl; start = λ i l. refl; before = λ a b la lb. spells .chains a b }
+
+  pub sound-settleable : (row : List ℕ) → length starts ≤ length row → Settleable starts deadlines before row
+  sound-settleable row l = record {
+    even = s .even;
+    room = l;
+    few = s .few;
+    rows = spells .long;
+    early = λ i h. le-by _ 4095 (λ g. s .jobs i h .0 (inl g));
+    late = λ i h. le-by _ 4096 (λ g. s .jobs i h .0 (inr g));
+    closed = reads-closed L J reads;
+    loopless = reads-loopless L J reads free;
+    held = spells-held (length starts) pairs before (length pairs / 2) (s .held) (omega arith) spells;
+  }
+
+  holds-row : (times row : ℕ → ℕ) → ((i : ℕ) → i < length starts → row i ≡ times i) → ((early : ℕ → ℕ) → Earliest J early → Latest 2 J early (row-in deadlines) times) → Holds 2 L J row
+  unfolding written
+  holds-row times row same x =
+      let e = exists-earliest J (reads-closed L J reads) (reads-loopless L J reads free) in
+      record {
+        formed = formed starts deadlines pairs s;
+        loopless = free;
+        reads = reads;
+        early = e .0;
+        earliest = e .1;
+        latest = latest-along 2 J J (λ i. i) (λ i. i) (reads-one L J J reads reads) (e .0) (e .0) (row-in deadlines) (row-in deadlines) times row
+            (λ i l. refl) (λ i l. refl) same (x (e .0) (e .1));
+      }
+
+  -- the last check
+  pub settles-judged : (row : List ℕ) (r : Judged) → Settles starts deadlines before row r → Table (plan-check L) (TurnedDown row) (Fitted L row) r
+  unfolding written
+  settles-judged row r (refused n v x e) = refused n v ((λ p. x .0 (plan-one 2 L (p .0) J (written L) (p .1) reads (p .2))), x .1, x .2) e
+  settles-judged row r (passed free x) =
+      let holds = holds-row (row-in (x .times)) (row-in (r .row)) (x .handed .front) (x .latest) in
+      passed (λ no. no (holds-planned 2 (omega arith) (omega arith) L J (row-in (r .row)) holds)) (record { accepts = x .accepts; same-length = x .handed .same-length; jobs = J; holds = holds; rest = x .handed .rest })
+
+  -- and so all of them
+  pub settles-says : (row after : List ℕ) (r : Answer) → SoundRows starts deadlines pairs row → Says r (λ n v. Settles starts deadlines before row (judged after n v)) →
+      Says r (λ n v. Judges starts deadlines pairs row (judged after n v))
+  settles-says row after r h x = says-more _ _ r (λ n v y. table-then (rows-checks starts deadlines pairs row) (plan-check L) (TurnedDown row) (Fitted L row) _ h (settles-judged row _ y)) x

@@ -1,0 +1,3 @@
+-- Words of the theory and of private functions: no demand and no public promise cites them.
+pub mod Sum
+pub mod Bound
