@@ -14,13 +14,15 @@
  *    2  start above 4,095 or deadline above 4,096                             the job's place in a list, else 0
  *    3  deadline at most the job's start                                      as 2
  *    4  sound, but no valid plan meets the deadlines                          0
- *    5  a job number not held                                                 the pair's place in a list, else 0
- *    6  order of a job before itself, or before one that precedes it          as 5
+ *    5  a job number not held; of an order, the first job's                   the pair's place in a list, else 0
+ *    6  order that closes a loop through other jobs                           as 5
  *    7  rows of a list that do not belong together                            0
  *    8  bytes lent too few for the whole plan or file                         the bytes needed
  *    9  file over 24,576 bytes                                                0
  *   10  mark unknown                                                          the record's offset
  *   11  offset past the end, or 1 to 5 bytes left                             the offset
+ *   12  order whose second job is not held                                    as 5
+ *   13  order of a job before itself                                          as 5
  *
  * A refusal leaves the book and every lent row, byte and number as it was, but for *value and, where planner_read
  * read a request that is then refused, for the offset. planner_open, planner_is_book and planner_class refuse nothing.
@@ -97,7 +99,8 @@ static inline uint8_t planner_add_job(struct planner_book *book, uint16_t start,
     return firmware_add_job(&book->size, book->before, start, deadline, value);
 }
 
-/* Job `first` ends before job `second` begins; *value is 0. An order that already follows changes nothing. 5, 6, 4. */
+/* Job `first` ends before job `second` begins; *value is 0. An order that already follows changes nothing.
+ * 5, 12, 13, 6, 4. */
 static inline uint8_t planner_add_order(struct planner_book *book, uint16_t first, uint16_t second, size_t *value) {
     return firmware_add_order(&book->size, book->before, first, second, value);
 }
@@ -108,7 +111,8 @@ static inline uint8_t planner_draw_in(struct planner_book *book, uint16_t job, u
 }
 
 /* A whole list and no book: `pairs` holds first, second, first, second..; `latest` receives the latest times, and its
- * entries beyond the number of jobs stay. *value is 0. 7, 1; then 2, 3 job by job; then 5 for all pairs; then 6; then 4. */
+ * entries beyond the number of jobs stay. *value is 0. 7, 1; then 2, 3 job by job; then 5, 12 pair by pair; then 13 or
+ * 6; then 4. */
 static inline uint8_t planner_judge(const uint16_t *starts, size_t starts_length, const uint16_t *deadlines,
                                     size_t deadlines_length, const uint16_t *pairs, size_t pairs_length,
                                     uint16_t *latest, size_t latest_length, size_t *value) {

@@ -183,12 +183,8 @@ impl Book {
             }
             Request::Before(first, second) => {
                 let (first, second) = (first as usize, second as usize);
-                if first >= n || second >= n {
-                    return Err((5, 0));
-                }
-                if first == second || self.precedes[second][first] {
-                    return Err((6, 0));
-                }
+                held(n, first, second, 0)?;
+                loopless(&self.precedes, first, second, 0)?;
                 if self.precedes[first][second] {
                     return Ok(0);
                 }
@@ -323,6 +319,28 @@ fn unsound(start: u16, deadline: u16, place: usize) -> Result<(), (u8, usize)> {
     Ok(())
 }
 
+/// 5 and 12: both jobs of an order are held.
+fn held(n: usize, first: usize, second: usize, place: usize) -> Result<(), (u8, usize)> {
+    if first >= n {
+        return Err((5, place));
+    }
+    if second >= n {
+        return Err((12, place));
+    }
+    Ok(())
+}
+
+/// 13 and 6: an order closes no loop.
+fn loopless(precedes: &Precedes, first: usize, second: usize, place: usize) -> Result<(), (u8, usize)> {
+    if first == second {
+        return Err((13, place));
+    }
+    if precedes[second][first] {
+        return Err((6, place));
+    }
+    Ok(())
+}
+
 /// The whole list at once; pairs "first, second" laid flat.
 pub fn judge(starts: &[u16], deadlines: &[u16], pairs: &[u16], latest: &mut [u16]) -> Answer {
     let n = starts.len();
@@ -336,15 +354,13 @@ pub fn judge(starts: &[u16], deadlines: &[u16], pairs: &[u16], latest: &mut [u16
         unsound(starts[job], deadlines[job], job)?;
     }
     let pairs: Vec<(usize, usize)> = pairs.chunks(2).map(|p| (p[0] as usize, p[1] as usize)).collect();
-    if let Some(place) = pairs.iter().position(|&(a, b)| a >= n || b >= n) {
-        return Err((5, place));
+    for (place, &(a, b)) in pairs.iter().enumerate() {
+        held(n, a, b, place)?;
     }
     let mut list = List { starts: starts.to_vec(), deadlines: deadlines.to_vec(), orders: vec![] };
     let mut precedes = list.precedes();
     for (place, &(a, b)) in pairs.iter().enumerate() {
-        if a == b || precedes[b][a] {
-            return Err((6, place));
-        }
+        loopless(&precedes, a, b, place)?;
         list.orders.push((a, b));
         order(&mut precedes, a, b);
     }
@@ -377,7 +393,7 @@ pub fn is_book(times: &[u16], before: &[u64]) -> bool {
 pub fn class(number: u8) -> u8 {
     match number {
         1 | 8 | 9 => 1,
-        2 | 3 | 5 | 6 => 2,
+        2 | 3 | 5 | 6 | 12 | 13 => 2,
         4 => 3,
         7 | 10 | 11 => 4,
         _ => 0,

@@ -14,7 +14,7 @@ pub struct Tally {
     pub records: u64,
     /// rows that are no book, and rows that are one
     pub books: [u64; 2],
-    pub refusals: [u64; 12],
+    pub refusals: [u64; 14],
 }
 
 impl Tally {

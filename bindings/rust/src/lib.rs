@@ -47,7 +47,7 @@ pub struct CoreIndex(pub usize);
 /// A number of refusal, and what is returned with it. Nothing was changed.
 #[derive(Clone, Copy, Debug, PartialEq, Eq)]
 pub struct Refusal {
-    /// 1 to 11.
+    /// 1 to 13.
     pub number: u8,
     /// What is returned with it: a place in a list, bytes needed, an offset, or 0.
     pub value: usize,
@@ -194,7 +194,7 @@ impl Book {
         self.apply(Request::Job { start, deadline }).map(|number| JobIndex(number as u16))
     }
 
-    /// An order that already follows changes nothing. 5, 6, 4.
+    /// An order that already follows changes nothing. 5, 12, 13, 6, 4.
     pub fn add_order(&mut self, first: JobIndex, second: JobIndex) -> Result<(), Refusal> {
         self.apply(Request::Before { first, second }).map(|_| ())
     }
@@ -263,7 +263,7 @@ impl Book {
 }
 
 /// The whole list at once: pairs "first, second" laid flat; `latest` receives the latest times, and its entries beyond
-/// the number of jobs stay. 7, 1; then 2, 3 job by job; then 5 for all pairs; then 6; then 4.
+/// the number of jobs stay. 7, 1; then 2, 3 job by job; then 5, 12 pair by pair; then 13 or 6; then 4.
 pub fn judge(starts: &[u16], deadlines: &[u16], pairs: &[u16], latest: &mut [u16]) -> Result<(), Refusal> {
     let mut value = 0;
     let number = unsafe {
@@ -309,13 +309,15 @@ impl fmt::Display for Refusal {
             2 => "start above 4,095 or deadline above 4,096",
             3 => "deadline at most the job's start",
             4 => "no valid plan meets the deadlines",
-            5 => "a job number that is not held",
-            6 => "an order that closes a loop",
+            5 => "a job number that is not held; of an order, the first",
+            6 => "an order that closes a loop through other jobs",
             7 => "rows of unequal length, or half a pair",
             8 => "too few bytes lent",
             9 => "a file over 24,576 bytes",
             10 => "unknown mark",
             11 => "no whole record at the offset",
+            12 => "an order whose second job is not held",
+            13 => "an order of a job before itself",
             _ => "unknown",
         };
         write!(f, "refused {}: {text} ({})", self.number, self.value)

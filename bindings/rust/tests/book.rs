@@ -83,6 +83,9 @@ fn a_file_is_written_and_read_back() {
     assert_eq!(copy, book);
     assert_eq!(copy.read(&file, &mut at), Event::Stopped(Refusal { number: 11, value: 30 }));
     assert_eq!(copy.read(b"OR\0\x09\0\x01", &mut 0), Event::Request(Err(Refusal { number: 5, value: 0 })));
+    assert_eq!(copy.read(b"OR\0\x01\0\x09", &mut 0), Event::Request(Err(Refusal { number: 12, value: 0 })));
+    assert_eq!(copy.read(b"OR\0\x09\0\x09", &mut 0), Event::Request(Err(Refusal { number: 5, value: 0 })));
+    assert_eq!(copy.read(b"OR\0\x01\0\x01", &mut 0), Event::Request(Err(Refusal { number: 13, value: 0 })));
     assert_eq!(copy.read(b"or\0\0\0\x01", &mut 0), Event::Stopped(Refusal { number: 10, value: 0 }));
 }
 
@@ -93,5 +96,8 @@ fn a_whole_list() {
     assert_eq!(latest, [1, 2, 2, 9]);
     assert_eq!(judge(&[0; 3], &[1; 3], &[], &mut latest), Err(REFUSED_4));
     assert_eq!(judge(&[0; 2], &[1, 2], &[0, 1, 1, 0], &mut latest), Err(Refusal { number: 6, value: 1 }));
+    assert_eq!(judge(&[0; 2], &[1, 2], &[0, 1, 1, 1], &mut latest), Err(Refusal { number: 13, value: 1 }));
+    assert_eq!(judge(&[0; 2], &[1, 2], &[0, 0, 1, 2], &mut latest), Err(Refusal { number: 12, value: 1 }));
+    assert_eq!(judge(&[0; 2], &[1, 2], &[0, 0, 2, 1], &mut latest), Err(Refusal { number: 5, value: 1 }));
     assert_eq!(judge(&[], &[], &[], &mut []), Ok(()));
 }

@@ -25,11 +25,12 @@ use Rattle.schedule.proofs.Table.{table}
 use Rattle.schedule.proofs.Table as theory
 use Rattle.refusal.specs.Table.{places, Table}
 use Rattle.refusal.specs.Table as checks
-use Rattle.refusal.proofs.Table.{table-free, table-caught}
+use Rattle.refusal.proofs.Table.{refuses-not-clear, table-free, table-caught}
 use Rattle.book.specs.Told.{Book, jobs-of, latest-of, row-in, Told}
 use Rattle.planner.specs.Requests.{plan-check}
 use Rattle.planner.specs.List.{first-of, second-of, pairs-of, list-of, Misshapen, order-at, Judged, judged, TurnedDown, Fitted, Judges}
 use Rattle.planner.specs.Inner.List.{Held}
+use Rattle.planner.proofs.Orders.{held-clear}
 use Rattle.planner.proofs.Pairs.{pairs-loopless}
 use Rattle.planner.proofs.ListSound.{Sound}
 use Rattle.planner.proofs.ListOutcome.{sound-by, loops-last, sound-last}
@@ -153,12 +154,17 @@ looped = record {
     alone = sound starts deadlines (0 ∷ 1 ∷ []) tt (table .loop-first .holds .formed) (table .loop-first .holds .loopless)
 
     held : Held 2 pairs
-    held = record { below = says-all 2 (λ p. says-not (says-or (says-le 2 (first-of pairs p)) (says-le 2 (second-of pairs p)))) .read tt }
+    held = record {
+      below = λ p l.
+          let u = says-all 2 (λ p. says-and (says-lt (first-of pairs p) 2) (says-lt (second-of pairs p) 2)) .read tt p l in
+          held-clear p 2 (first-of pairs p) (second-of pairs p) (u .0) (u .1);
+    }
 
     go : (old : List ℕ) (r : Judged) → Table (places 2 (order-at pairs)) (TurnedDown old) (Table (plan-check (list-of starts deadlines pairs)) (TurnedDown old) (Fitted (list-of starts deadlines pairs) old)) r →
         r ≡ judged old 6 1
-    go old r (checks.refused n v (zero, l, b, x) e) = absurd (alone .free 0 (omega arith) (x .0))
-    go old r (checks.refused n v (suc zero, l, b, x) e) = rw (sym (x .1), sym (x .2)) e
+    go old r (checks.refused n v (zero, l, b, x) e) = absurd (refuses-not-clear (order-at pairs 0) n v x (alone .free 0 (omega arith)))
+    go old r (checks.refused n v (suc zero, l, b, inl x) e) = let same : _≡_ {A = ℕ} 1 0 = x .0 in absurd (omega arith)
+    go old r (checks.refused n v (suc zero, l, b, inr x) e) = rw (sym (x .1 .1), sym (x .1 .2)) e
     go old r (checks.refused n v (suc (suc i), l, b, x) e) = absurd (omega arith)
     go old r (checks.passed f y) = absurd (pairs-loopless pairs 2 f (table .loop .0) (table .loop .1))
 

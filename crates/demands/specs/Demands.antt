@@ -14,7 +14,7 @@ use Rattle.schedule.specs.Make.{slots, bytes}
 use Rattle.schedule.specs.Listed.{Listed, Chain, Reads, written}
 use Rattle.schedule.specs.Book.{Holds}
 use Rattle.schedule.specs.declared.JobIndex.{JobIndex}
-use Rattle.book.specs.Told.{Book, cores, jobs-of, latest-of, Told, Made, nothing-listed}
+use Rattle.book.specs.Told.{Book, cores, jobs-of, latest-of, Told, Made}
 use Rattle.planner.specs.declared.requests.Request.{Request}
 use Rattle.planner.specs.declared.requests.Request.the-variants.{Before, Earlier}
 use Rattle.planner.specs.Requests.{Plannable, Sound, grow, accepts-with, Applied, answered, Applies, Run}
@@ -29,9 +29,9 @@ use Rattle.jobfile.specs.RoundTrip.{ReadsBack}
 use Rattle.firmware.specs.Plans.{FindsPlace}
 
 -- ---- 1. "Each refusal has a number; the book of jobs is then as it was before the call, and so is every byte of lent memory."
--- a number of the table (01, Numbers of refusal)
+-- a number of the table (01, Numbers of refusal; 02, A1: 12 and 13)
 abbrev pub Numbered : ℕ → Type 0
-Numbered n = (1 ≤ n) × (n ≤ 11)
+Numbered n = (1 ≤ n) × (n ≤ 13)
 
 pub record Demand1 : Type 0 where
   pub request : (k : Book) (q : Request) (r : Applied) → Made k → Applies k q r → 1 ≤ r .number → Numbered (r .number) × (r .book ≡ k)

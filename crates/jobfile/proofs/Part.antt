@@ -16,6 +16,7 @@ use Rattle.book.specs.Told.{Book, jobs-of, latest-of, Told, nothing-listed}
 use Rattle.refusal.specs.Table.{Clear}
 use Rattle.refusal.proofs.Table.{table-free}
 use Rattle.planner.specs.Requests.{Plannable, grow, request-checks, accepts-with, Applied, Grown, Outcome}
+use Rattle.planner.proofs.Orders.{held-clear, loop-clear}
 use Rattle.planner.proofs.OneByOne.{among-planned}
 use Rattle.records.specs.declared.Record.{Record}
 use Rattle.records.specs.declared.Record.the-variants.{Job, Order, Deadline}
@@ -123,8 +124,8 @@ module _ (k : Book) (L : Listed) (t : Told k L) where
   next-clear M (Order a c) p (all, y) =
       let h = t .shaped .before-rest a c y in (
         (
-          (λ f. ⊎-elim (λ g. omega arith) (λ g. omega arith) f),
-          λ f. ⊎-elim (λ e. let z = rw e at y in loopless c c z z) (λ z. loopless a c y (part-chain M p z)) f,
+          held-clear 0 (length (M .starts)) a c (omega arith) (omega arith),
+          loop-clear 0 (M .orders) a c (λ e. let z = rw e at y in loopless c c z z) (λ z. loopless a c y (part-chain M p z)),
         ),
         λ none. none (part-planned (grow M (asks (Order a c))) (next-part M (Order a c) p (all, y))),
       )

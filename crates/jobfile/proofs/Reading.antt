@@ -6,20 +6,19 @@ use mathlib.Core.Logic.{inl, inr}
 use mathlib.Core.Path.{_≡_, refl, sym, ap, subst, _∙_}
 use Prim.Native.Nat.{ℕ, _+_, _≤_}
 use native.Mathlib.Omega.{arith}
+use borrow.Author.Tests.{ne-eqb}
 use lib.Dec.{T}
 use lib.ListN.{length}
-use Rattle.schedule.specs.Listed.{Listed}
 use Rattle.schedule.proofs.Tests.{le-by}
 use Rattle.book.specs.Told.{Book, Made}
 use Rattle.refusal.specs.declared.Answer.{Answer}
 use Rattle.refusal.specs.Says.{Says}
 use Rattle.refusal.specs.Table.{Clear, Refuses, refused, passed, One}
 use Rattle.refusal.proofs.Says.{says-more}
-use Rattle.refusal.proofs.Table.{Each, among-each, refuses-each, table-one, table-all, table-free, table-caught, table-past, table-refused}
+use Rattle.refusal.proofs.Table.{Each, among-each, refuses-each, table-one, table-free, table-caught, table-past, table-refused}
 use Rattle.planner.specs.declared.requests.Request.{Request}
-use Rattle.planner.specs.declared.requests.Request.the-variants.{Job, Before, Earlier}
-use Rattle.planner.specs.Requests.{request-checks, accepts-with, grow, Applied, answered, Turned, Grown, Applies}
-use Rattle.planner.proofs.Outcome.{applies-only}
+use Rattle.planner.specs.Requests.{Applied, answered, Applies}
+use Rattle.planner.proofs.Outcome.{applies-only, applied-number}
 use Rattle.records.specs.declared.Record.{Record}
 use Rattle.records.specs.Record.{length-of, Stands}
 use Rattle.records.specs.declared.Found.{Found}
@@ -50,17 +49,8 @@ module _ (k : Book) (file : List ℕ) (at : ℕ) (m : Made k) where
       (tells-only _ _ (λ n v u w p q. let f = reads-only _ _ p q in (ap (λ (z : Step). z .number) f, ap (λ (z : Step). z .value) f)) r s x y, ap (λ (z : Step). z .book) e, ap (λ (z : Step). z .at) e)
 
 -- ---- the number of a request is none of an end or a stop
-request-numbers : (L : Listed) (q : Request) → Each (λ n. T (not (halts n))) (request-checks L q)
-request-numbers L (Job s d) = ((tt, (tt, tt)), tt)
-request-numbers L (Before a b) = ((tt, tt), tt)
-request-numbers L (Earlier j d) = ((tt, (tt, tt)), tt)
-
 pub applies-number : (k : Book) (q : Request) (r : Applied) → Made k → Applies k q r → T (not (halts (r .number)))
-applies-number k q r m x =
-    table-all (request-checks (m .0) q) (Turned k) (Grown (grow (m .0) q) (accepts-with (m .0) q)) r (T (not (halts (r .number))))
-    (λ n v a e. subst (λ (i : ℕ). T (not (halts i))) (sym (ap (λ (z : Applied). z .number) e)) (among-each (λ n. T (not (halts n))) (request-checks (m .0) q) n (request-numbers (m .0) q) a))
-    (λ g. subst (λ (i : ℕ). T (not (halts i))) (sym (ap (λ (z : Applied). z .number) (g .accepts))) tt)
-    (x .outcome (m .0) (m .1))
+applies-number = applied-number (λ n. T (not (halts n))) tt tt (λ n t. simp (ne-eqb n 255 (λ e. rw e at t), ne-eqb n 9 (λ e. rw e at t), ne-eqb n 10 (λ e. rw e at t), ne-eqb n 11 (λ e. rw e at t)) tt)
 
 -- ---- a step by its number
 find-numbers : (file : List ℕ) (at : ℕ) → Each (λ n. T (halts n)) (find-checks file at)

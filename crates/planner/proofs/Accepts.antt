@@ -21,15 +21,17 @@ use Rattle.planner.specs.declared.requests.Request.{Request}
 use Rattle.planner.specs.declared.requests.Request.the-variants.{Job, Before}
 use Rattle.sets.specs.Sets.{has}
 use Rattle.book.specs.Told.{Book, jobs-of, latest-of, row-in, Told}
-use Rattle.planner.specs.Requests.{Plannable, Applied, answered, Applies}
+use Rattle.planner.specs.Requests.{Plannable, loop-checks, Sound, Applied, answered, Applies}
 use Rattle.planner.specs.declared.chains.Pending.{Pending}
 use Rattle.planner.specs.Inner.Chains.{Links, entries, joined-rows}
 use Rattle.sets.proofs.Bits.{only}
 use Rattle.sets.proofs.Range.{with-is}
 use Rattle.schedule.proofs.Same.{reads-one, plan-one}
+use Rattle.refusal.specs.Table.{Clear}
 use Rattle.refusal.proofs.Table.{then-table}
+use Rattle.planner.proofs.Orders.{loop-left}
 use Rattle.planner.proofs.Outcome.{applies-by}
-use Rattle.planner.proofs.Growing.{Grows, size-is, job-grows, order-grows, followed-told, told-last, Tight, tight-last}
+use Rattle.planner.proofs.Growing.{Grows, size-is, job-grows, order-held, order-free, order-grows, followed-told, told-last, Tight, tight-last}
 use Rattle.book.proofs.Parts.{with-latest}
 use Rattle.planner.proofs.Pending.{entries-length, entries-at, rows-long, joined-links}
 
@@ -92,17 +94,17 @@ module _ (L : Listed) (k : Book) (t : Told k L) where
       r = answered (with-latest grown (x .0)) 0 (k .size)
 
   -- an order of two jobs
-  pub order-accepted : (a b : ℕ) → a < k .size → b < k .size → ((a ≡ b) ⊎ Chain (L .orders) b a → ⊥) → Plannable (with-order L a b) → Accepts k (Before (record { 0 = a }) (record { 0 = b }))
-  order-accepted a b la lb none plan = go (test (has (getD (k .before) b 0) a))
+  pub order-accepted : (a b place : ℕ) → a < k .size → b < k .size → Clear (loop-checks place (L .orders) a b) → Plannable (with-order L a b) → Accepts k (Before (record { 0 = a }) (record { 0 = b }))
+  order-accepted a b place la lb clear plan = go (test (has (getD (k .before) b 0) a))
     where
+      none : (a ≡ b → ⊥) × (Chain (L .orders) b a → ⊥)
+      none = loop-left place (L .orders) a b clear
+
       free : T (has (getD (k .before) a 0) b) → ⊥
-      free x = none (inr (t .holds .reads .before b a lb la .0 x))
+      free x = none .1 (t .holds .reads .before b a lb la .0 x)
 
-      held : (M : Listed) → Told k M → (length (M .starts) ≤ a) ⊎ (length (M .starts) ≤ b) → ⊥
-      held M u f = ⊎-elim (λ g. omega (arith, size-is M k u)) (λ g. omega (arith, size-is M k u)) f
-
-      clear : (M : Listed) → Told k M → (a ≡ b) ⊎ Chain (M .orders) b a → ⊥
-      clear M u f = ⊎-elim (λ e. none (inl e)) (λ c. free (u .holds .reads .before b a lb la .1 c)) f
+      sound : (M : Listed) → Told k M → Sound M (Before (record { 0 = a }) (record { 0 = b }))
+      sound M u = (order-held M k u a b la lb, order-free M k u a b la lb (none .0) free)
 
       rows : (new : List ℕ) × (length new ≡ 64) × Links a b (k .before) new
       rows = links-exist (k .before) a b (t .shaped .befores) (omega (arith, t .shaped .few)) (omega (arith, t .shaped .few))
@@ -111,7 +113,7 @@ module _ (L : Listed) (k : Book) (t : Told k L) where
       grown = record { size = k .size; start = k .start; latest = k .latest; before = rows .0 }
 
       grows : (M : Listed) → Told k M → Grows (with-order M a b) grown
-      grows M u = order-grows M k u a b la lb (rows .0) (rows .1) (rows .2) (λ e. none (inl e)) free
+      grows M u = order-grows M k u a b la lb (rows .0) (rows .1) (rows .2) (none .0) free
 
       x : (row : List ℕ) × Tight grown row
       x = tight-exists (with-order L a b) grown (grows L t) plan
@@ -121,11 +123,11 @@ module _ (L : Listed) (k : Book) (t : Told k L) where
         next = k;
         value = 0;
         applies = applies-by k _ _ (L, t) (λ M u.
-            then-table (held M u, clear M u) (told-last (with-order M a b) 0 0 k k refl (followed-told M k u a b la lb old)));
+            then-table (sound M u) (told-last (with-order M a b) 0 0 k k refl (followed-told M k u a b la lb old)));
       }
       go (inr new) = record {
         next = with-latest grown (x .0);
         value = 0;
         applies = applies-by k _ _ (L, t) (λ M u.
-            then-table (held M u, clear M u) (tight-last (with-order M a b) k grown 0 0 (x .0) refl (grows M u) (x .1)));
+            then-table (sound M u) (tight-last (with-order M a b) k grown 0 0 (x .0) refl (grows M u) (x .1)));
       }

@@ -21,12 +21,13 @@ use Rattle.schedule.proofs.Onward.{Onward, holds-planned, onward-job, onward-or
 use Rattle.schedule.proofs.Book.{holds-followed, holds-kept}
 use Rattle.sets.specs.Sets.{has}
 use Rattle.book.specs.Told.{Book, cores, jobs-of, latest-of, row-in, Shaped, Limited, Told}
-use Rattle.refusal.specs.Table.{Table, refused, passed}
-use Rattle.planner.specs.Requests.{plan-check, Applied, answered, Turned, Grown}
+use Rattle.refusal.specs.Table.{Clear, Table, refused, passed}
+use Rattle.planner.specs.Requests.{held-checks, loop-checks, plan-check, Applied, answered, Turned, Grown}
 use Rattle.book.proofs.Parts.{with-latest}
 use Rattle.planner.specs.Inner.Chains.{Links}
 use Rattle.planner.specs.Inner.Tighten.{Tightenable, Tightens}
 use Rattle.schedule.proofs.Same.{plan-one}
+use Rattle.planner.proofs.Orders.{held-clear, loop-clear}
 
 pub true-T : (b : Bool) → b ≡ true → T b
 true-T b e = rw e tt
@@ -172,16 +173,15 @@ module _ (L : Listed) (k : Book) (t : Told k L) where
     order-limited = record { start = t .limited .start; deadline = t .limited .deadline }
 
     -- both jobs are in the list
-    pub order-held : (length (L .starts) ≤ a) ⊎ (length (L .starts) ≤ b) → ⊥
-    order-held f = ⊎-elim (λ x. omega (arith, size-is)) (λ x. omega (arith, size-is)) f
+    pub order-held : Clear (held-checks 0 (length (L .starts)) a b)
+    order-held = held-clear 0 (length (L .starts)) a b (omega (arith, size-is)) (omega (arith, size-is))
 
     -- b precedes a, or neither closes a loop
     pub order-back : has (getD (k .before) a 0) b ≡ true → Chain (L .orders) b a
     order-back e = t .holds .reads .before b a lb la .0 (true-T _ e)
 
-    pub order-free : (a ≡ b → ⊥) → has (getD (k .before) a 0) b ≡ false → (a ≡ b) ⊎ Chain (L .orders) b a → ⊥
-    order-free f e (inl x) = f x
-    order-free f e (inr x) = false-T _ e (t .holds .reads .before b a lb la .1 x)
+    pub order-free : (a ≡ b → ⊥) → (T (has (getD (k .before) a 0) b) → ⊥) → Clear (loop-checks 0 (L .orders) a b)
+    order-free apart free = loop-clear 0 (L .orders) a b apart (λ x. free (t .holds .reads .before b a lb la .1 x))
 
     -- that already follows
     pub followed-told : T (has (getD (k .before) b 0) a) → Told k (with-order L a b)

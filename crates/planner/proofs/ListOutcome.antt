@@ -2,14 +2,14 @@
 -- Assumes nothing.
 use mathlib.Core.List.{List}
 use mathlib.Core.Logic.{inl, ⊎-elim}
-use mathlib.Core.Path.{_≡_, sym, ap, subst, _∙_}
+use mathlib.Core.Path.{_≡_, sym, ap, _∙_}
 use Prim.Native.Nat.{ℕ, _/_, _≤_, _<_}
 use native.Mathlib.Nat.{le-antisymm}
 use native.Mathlib.Omega.{arith}
 use lib.Dec.{T}
 use lib.ListN.{length, getD}
 use lib.Seq.{ext-getD}
-use Rattle.schedule.specs.Listed.{Listed, Chain, link, join, Looped, Formed, written}
+use Rattle.schedule.specs.Listed.{Listed, link, Looped, Formed, written}
 use Rattle.schedule.proofs.Tests.{le-or-lt, le-by}
 use Rattle.refusal.specs.declared.Answer.{Answer}
 use Rattle.refusal.specs.Says.{Says}
@@ -26,6 +26,7 @@ use Rattle.schedule.proofs.Onward.{holds-planned}
 use Rattle.planner.proofs.Growing.{size-is}
 use Rattle.planner.proofs.Pairs.{pairs-more, pairs-in}
 use Rattle.planner.proofs.ListSound.{Sound}
+use Rattle.planner.proofs.Orders.{held-clear, loop-none}
 use Rattle.planner.proofs.OneByOne.{run-exists}
 
 -- ---- one outcome
@@ -50,7 +51,7 @@ list-answer-only starts deadlines pairs row after next r s x y =
 
 -- ---- numbers
 pub rows-numbers : (starts deadlines pairs row : List ℕ) → Each (λ n. T (sound-number n)) (rows-checks starts deadlines pairs row)
-rows-numbers starts deadlines pairs row = (tt, (tt, ((λ i. (tt, tt)), ((λ p. tt), λ p. tt))))
+rows-numbers starts deadlines pairs row = (tt, (tt, ((λ i. (tt, tt)), ((λ p. (tt, tt)), λ p. (tt, tt)))))
 
 pub list-some : (starts deadlines pairs row : List ℕ) → Each (λ n. 1 ≤ n) (list-checks starts deadlines pairs row)
 list-some starts deadlines pairs row =
@@ -75,19 +76,14 @@ sound-by starts deadlines pairs formed loopless few jobs = record {
   even = sym (formed .even);
   few = few;
   jobs = jobs;
-  held = record { below = λ p l u. let h = formed .held (first-of pairs p) (second-of pairs p) (pairs-in pairs n p l) in ⊎-elim (λ g. omega arith) (λ g. omega arith) u };
-  free = λ p l u. loopless (
-    first-of pairs p,
-    ⊎-elim
-        (λ e. subst (λ x. Chain (pairs-of pairs n) (first-of pairs p) x) (sym e) (link (pairs-in pairs n p l)))
-        (λ c. join (link (pairs-in pairs n p l)) (pairs-more pairs p n (omega arith) (second-of pairs p) (first-of pairs p) c)) u,
-  );
+  held = record { below = λ p l. let h = formed .held (first-of pairs p) (second-of pairs p) (pairs-in pairs n p l) in held-clear p (length starts) (first-of pairs p) (second-of pairs p) (h .0) (h .1) };
+  free = λ p l. loop-none p (pairs-of pairs p) (first-of pairs p) (second-of pairs p) (pairs-of pairs n) (λ x c. loopless (x, c)) (pairs-more pairs p n (omega arith)) (link (pairs-in pairs n p l));
 }
   where
     n : ℕ
     n = length pairs / 2
 
--- what is left of the checks: 6 and 4 for jobs that pass, and 4 for a sound list
+-- what is left of the checks: 13, 6 and 4 for jobs that pass, and 4 for a sound list
 module _ (starts deadlines pairs row : List ℕ) (r : Judged) (m : Misshapen starts deadlines pairs row → ⊥) (j : Judges starts deadlines pairs row r) where
   pub loops-last : length starts ≤ 64 → ((i : ℕ) → i < length starts → Clear (job-at starts deadlines i)) → Held (length starts) pairs →
       Table (places (length pairs / 2) (order-at pairs)) (TurnedDown row) (Table (plan-check (list-of starts deadlines pairs)) (TurnedDown row) (Fitted (list-of starts deadlines pairs) row)) r

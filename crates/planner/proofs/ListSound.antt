@@ -15,26 +15,25 @@ use Rattle.schedule.proofs.Early.{exists-earliest}
 use Rattle.schedule.proofs.Chains.{reads-closed, reads-loopless}
 use Rattle.schedule.proofs.Renumber.{latest-along}
 use Rattle.book.specs.Told.{jobs-in, row-in}
-use Rattle.refusal.specs.Table.{Checks, Clear, Refuses, Table, refused, passed}
-use Rattle.planner.specs.Requests.{times-checks, plan-check}
+use Rattle.refusal.specs.Table.{Checks, places, Clear, Refuses, Table, refused, passed}
+use Rattle.planner.specs.Requests.{plan-check}
 use Rattle.planner.specs.List.{list-of, job-at, order-at, rows-checks, SoundRows, Judged, judged, TurnedDown, Fitted, Judges}
-use Rattle.planner.specs.Inner.List.{First, Held, Spells, Settleable, Settles}
+use Rattle.planner.specs.Inner.List.{Held, Spells, Settleable, Settles}
 use Rattle.schedule.proofs.Same.{reads-one, plan-one}
 use Rattle.schedule.proofs.Onward.{holds-planned}
 use Rattle.refusal.specs.declared.Answer.{Answer}
-use Rattle.planner.specs.Inner.Times.{Numbers}
+use Rattle.planner.specs.Inner.Numbers.{Numbers}
 use Rattle.refusal.specs.Says.{Says}
-use Rattle.refusal.proofs.Table.{refuses-not-clear, table-then}
+use Rattle.refusal.proofs.Table.{table-then}
 use Rattle.refusal.proofs.Says.{says-more}
 use Rattle.planner.proofs.Pairs.{pairs-held, pairs-loopless, spells-held}
 
--- ---- a check of every place that found none
-pub none-at : (n : ℕ) (at : ℕ → Checks) (p : ℕ) → First n at p → n ≤ p → (i : ℕ) → i < n → Clear (at i)
-none-at n at p f l i h = f .before i (omega arith)
+-- ---- a search through all places: the first that finds its fault, or none
+pub found-at : (n : ℕ) (at : ℕ → Checks) (p number : ℕ) → p < n → ((j : ℕ) → j < p → Clear (at j)) → (number ≡ 0 → ⊥) → Refuses (at p) number p → Numbers (places n at) number p
+found-at n at p number l before f x = record { none = λ e. absurd (f e); some = λ g. (p, l, before, x) }
 
--- a job whose times are not clear has a number
-pub number-at : (start deadline r place n v : ℕ) → Numbers start deadline r → Refuses (times-checks place start deadline) n v → Refuses (times-checks place start deadline) r place
-number-at start deadline r place n v x y = x .some (λ e. refuses-not-clear (times-checks place start deadline) n v y (x .none e place)) place
+pub none-at : (n : ℕ) (at : ℕ → Checks) (p value : ℕ) → n ≤ p → ((j : ℕ) → j < p → Clear (at j)) → Numbers (places n at) 0 value
+none-at n at p value l before = record { none = λ e i h. before i (omega arith); some = λ f. absurd (f refl) }
 
 -- ---- what the checks before the last leave
 pub record Sound (starts deadlines pairs : List ℕ) : Type 0 where

@@ -104,7 +104,7 @@ module _ (starts deadlines pairs : List ℕ) (s : Sound starts deadlines pairs) 
       let k = run-pairs n (omega arith) in
       let t = run-told (paired n) (k .0) (k .1) in
       let h = held-both (length starts) pairs (s .held) n (first-of pairs n) (second-of pairs n) l refl refl in
-      let a = order-accepted (paired n) (k .0) t (first-of pairs n) (second-of pairs n) (omega (arith, h .0, size-is (paired n) (k .0) t)) (omega (arith, h .1, size-is (paired n) (k .0) t))
+      let a = order-accepted (paired n) (k .0) t (first-of pairs n) (second-of pairs n) n (omega (arith, h .0, size-is (paired n) (k .0) t)) (omega (arith, h .1, size-is (paired n) (k .0) t))
       (s .free n l) (paired-planned (suc n) l) in
       (a .next, run-on (paired n) (k .0) _ (k .1) a)
 

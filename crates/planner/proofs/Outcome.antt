@@ -1,6 +1,6 @@
 -- A request has one outcome, and a run of requests one book.
 -- Assumes nothing.
-use mathlib.Core.Bool.{Bool, not, _&&_}
+use mathlib.Core.Bool.{Bool, not, _&&_, _||_}
 use mathlib.Core.Path.{_≡_, sym, ap, subst, _∙_}
 use native.Mathlib.Omega.{arith}
 use Prim.Native.Nat.{ℕ, _≤_, _<_}
@@ -34,26 +34,36 @@ pub answer-only : (k : Book) (q : Request) (b c : Book) (r s : Answer) → Made 
 answer-only k q b c r s m x y = says-only _ _ r s (λ n v u w p o. let e = applies-only k q m _ _ p o in (ap (λ (a : Applied). a .number) e, ap (λ (a : Applied). a .value) e)) x y
 
 -- ---- numbers
--- a number of the table before 4
+-- a number of the table that comes before 4; 9, 10 and 11 are those of a file
 abbrev pub sound-number : ℕ → Bool
-sound-number n = ltb 0 n && ltb n 12 && not (eqb n 4)
+sound-number n = ltb 0 n && ltb n 14 && not (eqb n 4 || eqb n 9 || eqb n 10 || eqb n 11)
 
 pub sound-numbers : (L : Listed) (q : Request) → Each (λ n. T (sound-number n)) (sound-checks L q)
 sound-numbers L (Job s d) = (tt, (tt, tt))
-sound-numbers L (Before a b) = (tt, tt)
+sound-numbers L (Before a b) = ((tt, tt), (tt, tt))
 sound-numbers L (Earlier j d) = (tt, (tt, tt))
 
 pub sound-some : (n : ℕ) → T (sound-number n) → 1 ≤ n
-sound-some n t = ltb→lt 0 n (and-fst (ltb 0 n) (ltb n 12) (and-fst (ltb 0 n && ltb n 12) (not (eqb n 4)) t))
+sound-some n t = ltb→lt 0 n (and-fst (ltb 0 n) (ltb n 14) (and-fst (ltb 0 n && ltb n 14) _ t))
 
-pub sound-few : (n : ℕ) → T (sound-number n) → n < 12
-sound-few n t = ltb→lt n 12 (and-snd (ltb 0 n) (ltb n 12) (and-fst (ltb 0 n && ltb n 12) (not (eqb n 4)) t))
+pub sound-few : (n : ℕ) → T (sound-number n) → n < 14
+sound-few n t = ltb→lt n 14 (and-snd (ltb 0 n) (ltb n 14) (and-fst (ltb 0 n && ltb n 14) _ t))
 
 pub sound-other : (n : ℕ) → T (sound-number n) → 4 ≡ n → ⊥
 sound-other n t e = rw (← e) at t
 
 pub request-some : (L : Listed) (q : Request) → Each (λ n. 1 ≤ n) (request-checks L q)
 request-some L q = (each-map (λ n. T (sound-number n)) (λ n. 1 ≤ n) (sound-checks L q) sound-some (sound-numbers L q), omega arith)
+
+-- what holds of 0, of 4 and of the numbers before 4 holds of an answer's number
+pub applied-number : (P : ℕ → Type 0) → P 0 → P 4 → ((n : ℕ) → T (sound-number n) → P n) → (k : Book) (q : Request) (r : Applied) → Made k → Applies k q r → P (r .number)
+applied-number P zero four sound k q r m x =
+    let L = m .0 in
+    let at : (n : ℕ) → r .number ≡ n → P n → P (r .number) = λ n e p. subst P (sym e) p in
+    table-all (request-checks L q) (Turned k) (Grown (grow L q) (accepts-with L q)) r (P (r .number))
+    (λ n v a e. at n (ap (λ (z : Applied). z .number) e) (among-each P (request-checks L q) n (each-map (λ n. T (sound-number n)) P (sound-checks L q) sound (sound-numbers L q), four) a))
+    (λ g. at 0 (ap (λ (z : Applied). z .number) (g .accepts)) zero)
+    (x .outcome L (m .1))
 
 -- ---- runs
 pub kept-refused : (L : Listed) (q : Request) (n : ℕ) → 1 ≤ n → kept L q n ≡ L

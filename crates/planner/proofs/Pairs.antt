@@ -1,25 +1,25 @@
 -- Pairs laid flat, taken in one by one: the rows spell their chains, and no loop is closed.
 -- Assumes nothing.
-use mathlib.Core.Bool.{_||_}
 use mathlib.Core.List.{List, []}
 use mathlib.Core.Logic.{_↔_, _⊎_, inl, inr, ⊎-elim}
 use mathlib.Core.Path.{_≡_, refl, sym, ap, subst, _∙_}
 use Prim.Native.Nat.{ℕ, zero, suc, _+_, _/_, _≤_, _<_}
-use native.Mathlib.Nat.{not-suc-le-zero, eq-or-lt-of-le}
+use native.Mathlib.Nat.{not-suc-le-zero, eq-or-lt-of-le, le-antisymm}
 use native.Mathlib.Numerals.{add-one}
 use native.Mathlib.Omega.{arith}
-use lib.Dec.{T, eqb, eqb→eq}
+use lib.Dec.{T}
 use lib.ListN.{length, getD, replicate}
 use Rattle.schedule.specs.Listed.{ordered, Chain, link, join}
-use Rattle.schedule.proofs.Tests.{lt-by, or-left, or-right, or-split, eq→eqb}
 use Rattle.schedule.proofs.Search.{split-last}
 use Rattle.schedule.proofs.Chains.{chain-grows, chain-held, ordered-append}
 use Rattle.sets.specs.Sets.{has}
 use Rattle.planner.specs.List.{first-of, second-of, pairs-of, order-at}
 use Rattle.refusal.specs.Table.{Clear}
-use Rattle.planner.specs.Inner.List.{Held, Spells, TakesIn}
+use Rattle.planner.specs.Inner.Numbers.{Numbers}
+use Rattle.planner.specs.Inner.List.{Held, Spells, Closes, TakesIn}
 use Rattle.book.proofs.Empty.{zeros}
 use Rattle.sets.proofs.Bits.{empty-has}
+use Rattle.planner.proofs.Orders.{held-left, loop-left}
 
 -- a chain that was, or one through a before b
 abbrev Through : (ℕ → ℕ → Type 0) → ℕ → ℕ → ℕ → ℕ → Type 0
@@ -88,23 +88,17 @@ spells-more pairs rows next n s f = rw add-one (record { long = ⊎-elim (λ u. 
       (λ c. u .1 x y .1 (through-map (Chain o) (λ x y. T (has (getD rows y 0) x)) (λ x y c. s .chains x y .1 c) a b x y (pairs-grow pairs n x y .0 c))),
     )
 
--- a before b closes a loop where they are one, or b is in the set before a
-pub looping-is : (pairs rows : List ℕ) (p a b : ℕ) → Spells pairs p rows → a ≡ first-of pairs p → b ≡ second-of pairs p →
-    T (eqb a b || has (getD rows a 0) b) ↔ ((first-of pairs p ≡ second-of pairs p) ⊎ Chain (pairs-of pairs p) (second-of pairs p) (first-of pairs p))
-looping-is pairs rows p a b s e f = rw (e, f) (
-  (λ t. ⊎-elim (λ u. inl (eqb→eq x y u)) (λ u. inr (s .chains y x .0 u)) (or-split (eqb x y) (has (getD rows x 0) y) t)),
-  (λ u. ⊎-elim (λ t. or-left (eqb x y) (has (getD rows x 0) y) (eq→eqb x y t)) (λ t. or-right (eqb x y) (has (getD rows x 0) y) (s .chains y x .1 t)) u),
-)
-  where
-    x : ℕ
-    x = first-of pairs p
+-- past the last pair
+pub spells-all : (pairs rows : List ℕ) (p n : ℕ) → p ≤ n → n ≤ p → Spells pairs p rows → Spells pairs n rows
+spells-all pairs rows p n l h s = subst (λ k. Spells pairs k rows) (le-antisymm l h) s
 
-    y : ℕ
-    y = second-of pairs p
+-- the number that a pair earns by the loop that it closes with those before it
+pub earned : (pairs rows : List ℕ) (p a b number : ℕ) → Spells pairs p rows → a ≡ first-of pairs p → b ≡ second-of pairs p → Closes rows a b number → Numbers (order-at pairs p) number p
+earned pairs rows p a b number s e f x = rw (e, f) at (x (pairs-of pairs p) p (s .chains b a))
 
 -- ---- what the checks leave
 pub held-both : (size : ℕ) (pairs : List ℕ) → Held size pairs → (p a b : ℕ) → p < length pairs / 2 → a ≡ first-of pairs p → b ≡ second-of pairs p → (a < size) × (b < size)
-held-both size pairs h p a b l e f = (lt-by a size (λ g. h .below p l (inl (omega arith))), lt-by b size (λ g. h .below p l (inr (omega arith))))
+held-both size pairs h p a b l e f = rw (e, f) (held-left p size (first-of pairs p) (second-of pairs p) (h .below p l))
 
 pub pairs-held : (size : ℕ) (pairs : List ℕ) → Held size pairs → (n : ℕ) → n ≤ length pairs / 2 → (a b : ℕ) → T (ordered (pairs-of pairs n) a b) → (a < size) × (b < size)
 unfolding pairs-of ordered
@@ -122,7 +116,7 @@ pub pairs-loopless : (pairs : List ℕ) (n : ℕ) → ((p : ℕ) → p < n → C
 unfolding pairs-of
 pairs-loopless pairs zero h x c = no-chain c
 pairs-loopless pairs (suc n) h x c =
-    ⊎-elim (λ u. pairs-loopless pairs n (λ p l. h p (omega arith)) x u) (λ u. h n (omega arith) (closes x (u .0) (u .1))) (pairs-grow pairs n x x .0 c)
+    ⊎-elim (λ u. pairs-loopless pairs n (λ p l. h p (omega arith)) x u) (λ u. ⊎-elim (left .0) (left .1) (closes x (u .0) (u .1))) (pairs-grow pairs n x x .0 c)
   where
     a : ℕ
     a = first-of pairs n
@@ -132,6 +126,9 @@ pairs-loopless pairs (suc n) h x c =
 
     C : ℕ → ℕ → Type 0
     C = Chain (pairs-of pairs n)
+
+    left : (a ≡ b → ⊥) × (C b a → ⊥)
+    left = loop-left n (pairs-of pairs n) a b (h n (omega arith))
 
     closes : (x : ℕ) → (x ≡ a) ⊎ C x a → (b ≡ x) ⊎ C b x → (a ≡ b) ⊎ C b a
     closes x (inl s) (inl t) = inl (sym (t ∙ s))

@@ -1,19 +1,19 @@
 -- A request that says nothing new is accepted and changes nothing (01, Requests on a book: "An order that already follows ..").
 -- Assumes nothing.
-use mathlib.Core.Logic.{⊎-elim}
-use mathlib.Core.Path.{_≡_, sym, ap, subst, _∙_}
+use mathlib.Core.Path.{_≡_, ap, _∙_}
 use Prim.Native.Nat.{ℕ, _≤_, _<_}
 use native.Mathlib.Omega.{arith}
 use lib.ListN.{length}
 use Rattle.schedule.specs.declared.JobIndex.{JobIndex}
-use Rattle.schedule.specs.Listed.{Listed, Chain, join}
+use Rattle.schedule.specs.Listed.{Listed, Chain}
 use Rattle.schedule.proofs.Chains.{chain-held}
 use Rattle.schedule.proofs.Onward.{holds-planned}
 use Rattle.planner.specs.declared.requests.Request.the-variants.{Before, Earlier}
 use Rattle.book.specs.Told.{Book, jobs-of, latest-of, Told}
 use Rattle.planner.specs.Requests.{Applied, answered, Applies}
 use Rattle.book.proofs.Same.{told-one}
-use Rattle.planner.proofs.Growing.{Last, size-is, followed-told, kept-told}
+use Rattle.planner.proofs.Growing.{Last, size-is, order-held, followed-told, kept-told}
+use Rattle.planner.proofs.Orders.{loop-none}
 use Rattle.refusal.proofs.Table.{table-free, table-rest}
 
 -- the book holds the enlarged list already
@@ -30,10 +30,7 @@ module _ (L : Listed) (k : Book) (t : Told k L) (r : Applied) where
       let la : a .0 < k .size = omega (arith, size-is L k t, l .0) in
       let lb : b .0 < k .size = omega (arith, size-is L k t, l .1) in
       settled _ k r (followed-told L k t (a .0) (b .0) la lb (t .holds .reads .before (a .0) (b .0) la lb .1 c))
-      (table-rest (
-        (λ f. ⊎-elim (λ h. omega (arith, l .0)) (λ h. omega (arith, l .1)) f),
-        λ f. t .holds .loopless (a .0, ⊎-elim (λ e. subst (Chain (L .orders) (a .0)) (sym e) c) (λ back. join c back) f),
-      ) (x .outcome L t))
+      (table-rest (order-held L k t (a .0) (b .0) la lb, loop-none 0 (L .orders) (a .0) (b .0) (L .orders) (λ x r. t .holds .loopless (x, r)) (λ x y r. r) c) (x .outcome L t))
 
   -- a deadline not below the latest time held
   pub deadline-unchanged : (j : JobIndex) (d : ℕ) → j .0 < k .size → d ≤ 4096 → latest-of k (j .0) ≤ d → Applies k (Earlier j d) r → r ≡ answered k 0 0

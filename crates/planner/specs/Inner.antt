@@ -2,7 +2,7 @@
 pub mod Chains
 pub mod Tighten
 pub mod Rows
-pub mod Times
+pub mod Numbers
 pub mod Requests
 pub mod List
 pub mod Memory

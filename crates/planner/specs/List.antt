@@ -42,7 +42,7 @@ pair-at size pairs p = held-checks p size (first-of pairs p) (second-of pairs p)
 abbrev pub order-at : List ℕ → ℕ → Checks
 order-at pairs p = loop-checks p (pairs-of pairs p) (first-of pairs p) (second-of pairs p)
 
--- "Whole list: 7, 1; then 2, 3 job by job; then 5 for all pairs; then 6 at the first pair that closes a loop with those before it; then 4", all but 4
+-- "Whole list: 7, 1; then 2, 3 job by job", and "5 then 12 pair by pair, then 13 or 6 at the first pair that earns one, then 4" (02, A1), all but 4
 abbrev pub rows-checks : List ℕ → List ℕ → List ℕ → List ℕ → Checks
 rows-checks starts deadlines pairs row =
     check 7 0 (Misshapen starts deadlines pairs row)

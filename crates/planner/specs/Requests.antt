@@ -24,13 +24,13 @@ Plannable L = (J : Jobs) × Reads L J × HasPlan cores J (written L)
 abbrev pub times-checks : ℕ → ℕ → ℕ → Checks
 times-checks place start deadline = check 2 place ((4095 < start) ⊎ (4096 < deadline)) then check 3 place (deadline ≤ start)
 
--- the two jobs of an order, of so many held
+-- the two jobs of an order, of so many held (02, A1: "For an order, 5 now means the first job isn't held, and a new number the second")
 abbrev pub held-checks : ℕ → ℕ → ℕ → ℕ → Checks
-held-checks place size first second = check 5 place ((size ≤ first) ⊎ (size ≤ second))
+held-checks place size first second = check 5 place (size ≤ first) then check 12 place (size ≤ second)
 
--- the loop that an order closes with those before it
+-- a job before itself, and the loop that an order closes with those before it (02, A1: "6 is left for a loop through other jobs")
 abbrev pub loop-checks : ℕ → List (ℕ × ℕ) → ℕ → ℕ → Checks
-loop-checks place orders first second = check 6 place ((first ≡ second) ⊎ Chain orders second first)
+loop-checks place orders first second = check 13 place (first ≡ second) then check 6 place (Chain orders second first)
 
 -- "sound, but no valid plan meets the deadlines"
 abbrev pub plan-check : Listed → Checks
@@ -43,7 +43,7 @@ grow L (Job s d) = with-job L s d
 grow L (Before a b) = with-order L (a .0) (b .0)
 grow L (Earlier j d) = with-deadline L (j .0) d
 
--- "Order of checks: new job 1, 2, 3, 4; order 5, 6, 4; earlier deadline 5, 2, 3, 4", all but 4
+-- "Order of checks: new job 1, 2, 3, 4; .. earlier deadline 5, 2, 3, 4", and "an order is checked 5, 12, 13, 6, 4" (02, A1), all but 4
 abbrev pub sound-checks : Listed → Request → Checks
 sound-checks L (Job s d) = check 1 0 (64 ≤ length (L .starts)) then times-checks 0 s d
 sound-checks L (Before a b) = held-checks 0 (length (L .starts)) (a .0) (b .0) then loop-checks 0 (L .orders) (a .0) (b .0)

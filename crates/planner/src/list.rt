@@ -6,15 +6,22 @@ use crate::tighten;
 use crate::times::fault;
 use refusal::Answer;
 use schedule::JobIndex;
-ghost use mathlib.Core.Bool.{_||_};
 ghost use mathlib.Core.Path.{_≡_};
 ghost use Prim.Native.Nat.{ℕ, _/_, _≤_, _<_};
-ghost use lib.Dec.{T, eqb};
+ghost use lib.Dec.{T};
 ghost use lib.ListN.{length, getD};
 ghost use Rattle.sets.specs.Sets.{has};
 ghost use Rattle.refusal.specs.Says.{Says};
+ghost use Rattle.refusal.specs.Table.{places};
 ghost use Rattle.planner.specs.List.{Judges, judged, job-at, pair-at};
-ghost use Rattle.planner.specs.Inner.List.{First, Held, Spells, Loops, TakesIn, Settleable, Settles};
+ghost use Rattle.planner.specs.Inner.Numbers.{Numbers};
+ghost use Rattle.planner.specs.Inner.List.{Held, Spells, Closes, Loops, TakesIn, Settleable, Settles};
+
+// The number of the first fault of a search, and its place; 0 for none.
+struct Found {
+    number: u8,
+    place: usize,
+}
 
 // The list judged, and its latest times in the receiving row; a refusal leaves the row as it was.
 pub fn judge(starts: &[u16], deadlines: &[u16], pairs: &[u16], latest: &mut [u16]) -> Answer
@@ -33,53 +40,66 @@ pub fn judge(starts: &[u16], deadlines: &[u16], pairs: &[u16], latest: &mut [u16
     if size > 64 {
         return Answer::Refused(1, 0);
     }
-    let job = unsound_job(starts, deadlines).0;
-    if job < size {
-        return Answer::Refused(fault(starts[job], deadlines[job]), job);
+    let job = unsound_job(starts, deadlines);
+    if job.number != 0 {
+        return Answer::Refused(job.number, job.place);
     }
     let stray = unheld_pair(pairs, size);
-    if stray < pairs.len() / 2 {
-        return Answer::Refused(5, stray);
+    if stray.number != 0 {
+        return Answer::Refused(stray.number, stray.place);
     }
     let mut rows = [0u64; 64];
     let closing = looping_pair(size, pairs, &mut rows);
-    if closing < pairs.len() / 2 {
-        return Answer::Refused(6, closing);
+    if closing.number != 0 {
+        return Answer::Refused(closing.number, closing.place);
     }
     settle(starts, deadlines, &rows, latest)
 }
 
-// The first job with a fault of its own, or the number of jobs.
-fn unsound_job(starts: &[u16], deadlines: &[u16]) -> JobIndex
+// The first job with a fault of its own.
+fn unsound_job(starts: &[u16], deadlines: &[u16]) -> Found
     requires { ⌜ length (now starts) ≡ length (now deadlines) ⌝ }
-    ensures { λ r. ⌜ First (length (now (starts .entry))) (job-at (now (starts .entry)) (now (deadlines .entry))) (r .0) ⌝ }
+    ensures { λ r. ⌜ Numbers (places (length (now (starts .entry))) (job-at (now (starts .entry)) (now (deadlines .entry)))) (r .number) (r .place) ⌝ }
 {
     let mut i: usize = 0;
     while i < starts.len() {
-        if fault(starts[i], deadlines[i]) != 0 {
-            return JobIndex(i);
+        let number = fault(starts[i], deadlines[i]);
+        if number != 0 {
+            return Found { number, place: i };
         }
         i += 1;
     }
-    JobIndex(i)
+    Found {
+        number: 0,
+        place: 0,
+    }
 }
 
-// The first pair that names a job not held, or the number of pairs.
-fn unheld_pair(pairs: &[u16], size: usize) -> usize
-    ensures { λ r. ⌜ First (length (now (pairs .entry)) / 2) (pair-at size (now (pairs .entry))) r ⌝ }
+// The first pair that names a job not held.
+fn unheld_pair(pairs: &[u16], size: usize) -> Found
+    ensures { λ r. ⌜ Numbers (places (length (now (pairs .entry)) / 2) (pair-at size (now (pairs .entry)))) (r .number) (r .place) ⌝ }
 {
     let count = pairs.len() / 2;
     let mut p: usize = 0;
     while p < count {
         if named(pairs, 2 * p).0 >= size {
-            return p;
+            return Found {
+                number: 5,
+                place: p,
+            };
         }
         if named(pairs, 2 * p + 1).0 >= size {
-            return p;
+            return Found {
+                number: 12,
+                place: p,
+            };
         }
         p += 1;
     }
-    p
+    Found {
+        number: 0,
+        place: 0,
+    }
 }
 
 // The job that a pair names.
@@ -90,35 +110,42 @@ fn named(pairs: &[u16], at: usize) -> JobIndex
     JobIndex(pairs[at] as usize)
 }
 
-// The first pair that closes a loop with those before it, or the number of pairs; the rows take in those before it.
-fn looping_pair(size: usize, pairs: &[u16], rows: &mut [u64; 64]) -> usize
+// The first pair that closes a loop with those before it; the rows take in those before it.
+fn looping_pair(size: usize, pairs: &[u16], rows: &mut [u64; 64]) -> Found
     requires { ⌜ (size ≤ 64) × Held size (now pairs) × Spells (now pairs) 0 (now rows) ⌝ }
-    ensures { λ r. ⌜ Loops (now (pairs .entry)) (now (rows .exit)) r ⌝ }
+    ensures { λ r. ⌜ Loops (now (pairs .entry)) (now (rows .exit)) (r .number) (r .place) ⌝ }
 {
     let count = pairs.len() / 2;
     let mut p: usize = 0;
     while p < count {
         let first = named(pairs, 2 * p);
         let second = named(pairs, 2 * p + 1);
-        if closes(rows, first, second) {
-            return p;
+        let number = closes(rows, first, second);
+        if number != 0 {
+            return Found { number, place: p };
         }
         follow(size, rows, first, second);
         p += 1;
     }
-    p
+    Found {
+        number: 0,
+        place: 0,
+    }
 }
 
-// Whether a before b would close a loop.
-fn closes(rows: &[u64; 64], a: JobIndex, b: JobIndex) -> bool
+// The number of the loop that a before b would close, and 0 for none.
+fn closes(rows: &[u64; 64], a: JobIndex, b: JobIndex) -> u8
     requires { ⌜ (a .0 < 64) × (b .0 < 64) ⌝ }
-    ensures { λ r. ⌜ r ≡ (eqb (a .0) (b .0) || has (getD (now (rows .entry)) (a .0) 0) (b .0)) ⌝ }
+    ensures { λ r. ⌜ Closes (now (rows .entry)) (a .0) (b .0) r ⌝ }
 {
     let first = a.0;
     if first == b.0 {
-        return true;
+        return 13;
     }
-    sets::has(rows[first], b)
+    if sets::has(rows[first], b) {
+        return 6;
+    }
+    0
 }
 
 // Job a before job b, unless that already follows.

@@ -75,10 +75,10 @@ fn add_order(times: &mut Times, before: &mut Before, first: JobIndex, second: Jo
         return Answer::Refused(5, 0);
     }
     if b >= size {
-        return Answer::Refused(5, 0);
+        return Answer::Refused(12, 0);
     }
     if a == b {
-        return Answer::Refused(6, 0);
+        return Answer::Refused(13, 0);
     }
     if sets::has(before[a], second) {
         return Answer::Refused(6, 0);

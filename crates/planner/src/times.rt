@@ -1,8 +1,9 @@
 // Times: of a job, and in a row.
 ghost use mathlib.Core.Path.{_≡_};
-ghost use Prim.Native.Nat.{_<_};
+ghost use Prim.Native.Nat.{ℕ, _<_};
 ghost use lib.ListN.{getD};
-ghost use Rattle.planner.specs.Inner.Times.{Numbers};
+ghost use Rattle.planner.specs.Requests.{times-checks};
+ghost use Rattle.planner.specs.Inner.Numbers.{Numbers};
 
 // A time as a machine word.
 pub fn wide(time: u16) -> usize
@@ -21,7 +22,7 @@ pub fn time_at(row: &[u16; 64], i: usize) -> usize
 
 // The number of a job's fault, and 0 for none.
 pub fn fault(start: u16, deadline: u16) -> u8
-    ensures { λ r. ⌜ Numbers start deadline r ⌝ }
+    ensures { λ r. ⌜ ((place : ℕ) → Numbers (times-checks place start deadline) r place) ⌝ }
 {
     if start > 4095 {
         return 2;

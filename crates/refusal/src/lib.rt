@@ -43,7 +43,7 @@ pub fn class_of(number: u8) -> Class
 {
     match number {
         1 | 8..=9 => Class::Room,
-        2..=3 | 5..=6 => Class::Request,
+        2..=3 | 5..=6 | 12..=13 => Class::Request,
         4 => Class::Plan,
         7 | 10..=11 => Class::Form,
         _ => Class::None,

@@ -10,13 +10,11 @@ use lib.Dec.{T, eqb, eqb→eq}
 use lib.ListN.{length, getD, drop, replicate, length-append, List·getD-append}
 use lib.Seq.{getD-append-add, getD-drop}
 use Rattle.schedule.proofs.Tests.{le-or-lt}
-use Rattle.schedule.specs.Listed.{Listed}
 use Rattle.refusal.specs.Table.{Refuses}
 use Rattle.refusal.proofs.Says.{says-more}
-use Rattle.refusal.proofs.Table.{Each, among-each, table-all}
 use Rattle.planner.specs.declared.requests.Request.{Request}
-use Rattle.planner.specs.declared.requests.Request.the-variants.{Job, Before, Earlier}
-use Rattle.planner.specs.Requests.{request-checks, accepts-with, grow, Applied, Turned, Grown, Applies}
+use Rattle.planner.specs.Requests.{Applied, Applies}
+use Rattle.planner.proofs.Outcome.{sound-few, applied-number}
 use Rattle.records.specs.Find.{find-checks}
 use Rattle.book.specs.Told.{Book, Made}
 use Rattle.book.proofs.Empty.{zeros}
@@ -76,17 +74,8 @@ stop-put (event.Stopped n v) at old new next x p = (x .0, rw (some (eqb n 9) (eq
 
 -- ---- the numbers
 -- no number of a request has more than three digits
-request-small : (L : Listed) (q : Request) → Each (λ n. n < 1000) (request-checks L q)
-request-small L (Job s d) = ((omega arith, (omega arith, omega arith)), omega arith)
-request-small L (Before a b) = ((omega arith, omega arith), omega arith)
-request-small L (Earlier j d) = ((omega arith, (omega arith, omega arith)), omega arith)
-
 applied-small : (k : Book) (q : Request) (r : Applied) → Made k → Applies k q r → r .number < 1000
-applied-small k q r m x =
-    table-all (request-checks (m .0) q) (Turned k) (Grown (grow (m .0) q) (accepts-with (m .0) q)) r (r .number < 1000)
-    (λ n v a e. omega (arith, ap (λ (z : Applied). z .number) e, among-each (λ n. n < 1000) (request-checks (m .0) q) n (request-small (m .0) q) a))
-    (λ g. omega (arith, ap (λ (z : Applied). z .number) (g .accepts)))
-    (x .outcome (m .0) (m .1))
+applied-small = applied-number (λ n. n < 1000) (omega arith) (omega arith) (λ n t. omega (arith, sound-few n t))
 
 pub numbers-small : (file : List ℕ) (k : Book) (at : ℕ) (numbers : List ℕ) (r : Step) → Made k → SingleReads file k at numbers r → (i : ℕ) → getD numbers i 0 < 1000
 numbers-small file k at numbers r m (last x f) i = omega arith

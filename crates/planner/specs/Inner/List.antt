@@ -12,16 +12,12 @@ use Rattle.schedule.specs.Times.{Earliest, Latest}
 use Rattle.schedule.specs.Listed.{Chain}
 use Rattle.sets.specs.Sets.{has}
 use Rattle.book.specs.Told.{cores, jobs-in, row-in}
+use Rattle.planner.specs.Requests.{loop-checks}
 use Rattle.planner.specs.List.{pairs-of, pair-at, order-at, Judged, judged, TurnedDown}
-use Rattle.refusal.specs.Table.{Checks, check, Clear, Refuses, Table}
+use Rattle.refusal.specs.Table.{check, places, Clear, Table}
+use Rattle.planner.specs.Inner.Numbers.{Numbers}
 use Rattle.planner.specs.Inner.Chains.{Links}
 use Rattle.planner.specs.Inner.Rows.{Hands}
-
--- the first place below n at which a check finds its fault, or n where none does
-pub record First (n : ℕ) (at : ℕ → Checks) (r : ℕ) : Type 0 where
-  pub within : r ≤ n
-  pub before : (j : ℕ) → j < r → Clear (at j)
-  pub found : r < n → (m : ℕ) × Refuses (at r) m r
 
 -- every pair is of jobs below size
 pub record Held (size : ℕ) (pairs : List ℕ) : Type 0 where
@@ -32,10 +28,14 @@ pub record Spells (pairs : List ℕ) (n : ℕ) (rows : List ℕ) : Type 0 where
   pub long : length rows ≡ 64
   pub chains : (a b : ℕ) → T (has (getD rows b 0) a) ↔ Chain (pairs-of pairs n) a b
 
--- the first pair that closes a loop, and the rows of those before it
-pub record Loops (pairs rows : List ℕ) (r : ℕ) : Type 0 where
-  pub first : First (length pairs / 2) (order-at pairs) r
-  pub spells : Spells pairs r rows
+-- the number that a before b earns by the loop that it closes, where the rows have the chains of the orders
+abbrev pub Closes : List ℕ → ℕ → ℕ → ℕ → Type 0
+Closes rows a b number = (orders : List (ℕ × ℕ)) (place : ℕ) → T (has (getD rows a 0) b) ↔ Chain orders b a → Numbers (loop-checks place orders a b) number place
+
+-- the first pair that closes a loop; where none does, the rows spell the chains of all
+pub record Loops (pairs rows : List ℕ) (number place : ℕ) : Type 0 where
+  pub numbers : Numbers (places (length pairs / 2) (order-at pairs)) number place
+  pub spells : number ≡ 0 → Spells pairs (length pairs / 2) rows
 
 -- a before b already follows, or is taken in
 abbrev pub TakesIn : ℕ → ℕ → List ℕ → List ℕ → Type 0

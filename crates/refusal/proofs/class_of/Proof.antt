@@ -15,8 +15,8 @@ use Rattle.refusal.proofs.class_of.Tie as tie
 abbrev Unless : ℕ → Class → ℕ → Type 0
 Unless k x m = (m ≡ k → ⊥) → x ≡ class-of m
 
--- no class past 11
-far : (n : ℕ) → 12 ≤ n → None ≡ class-of n
+-- no class past 13
+far : (n : ℕ) → 14 ≤ n → None ≡ class-of n
 far n h =
     simp (
       ne-eqb n 1 (λ q. omega arith),
@@ -30,6 +30,8 @@ far n h =
       ne-eqb n 7 (λ q. omega arith),
       ne-eqb n 10 (λ q. omega arith),
       ne-eqb n 11 (λ q. omega arith),
+      ne-eqb n 12 (λ q. omega arith),
+      ne-eqb n 13 (λ q. omega arith),
     )
 
 returns : tie.Need-returns
@@ -39,24 +41,27 @@ returns-2 : tie.Need-returns-2
 returns-2 c = within (Unless 4 Request) 2 5 (c .before .before .before .args .number) (omega arith) (omega arith) (λ h. refl, (λ h. refl, (λ h. absurd (h refl), (λ h. refl, (λ h. refl, tt))))) (c .before .before .match .rest .0 .1)
 
 returns-3 : tie.Need-returns-3
-returns-3 c = within (Unless 1 None) 0 2 (c .before .before .args .number) (omega arith) (omega arith) (λ h. refl, (λ h. absurd (h refl), tt)) (c .before .match .rest .0 .0 .1)
+returns-3 c = within (λ (m : ℕ). Request ≡ class-of m) 12 2 (c .before .before .before .before .before .before .args .number) (omega arith) (omega arith) (refl, (refl, tt))
 
 returns-4 : tie.Need-returns-4
-returns-4 c = far (c .before .before .before .before .before .args .number) (omega arith)
+returns-4 c = within (Unless 1 None) 0 2 (c .before .before .args .number) (omega arith) (omega arith) (λ h. refl, (λ h. absurd (h refl), tt)) (c .before .match .rest .0 .0 .1)
 
 returns-5 : tie.Need-returns-5
-returns-5 c = rw (c .match .keys3) refl
+returns-5 c = far (c .before .before .before .before .before .before .args .number) (omega arith)
 
 returns-6 : tie.Need-returns-6
-returns-6 c = within (λ (m : ℕ). Form ≡ class-of m) 10 2 (c .before .before .before .before .before .args .number) (omega arith) (omega arith) (refl, (refl, tt))
+returns-6 c = rw (c .match .keys3) refl
 
 returns-7 : tie.Need-returns-7
-returns-7 c = rw (c .match .keys1) refl
+returns-7 c = within (λ (m : ℕ). Form ≡ class-of m) 10 2 (c .before .before .before .before .before .args .number) (omega arith) (omega arith) (refl, (refl, tt))
 
 returns-8 : tie.Need-returns-8
-returns-8 c = within (Unless 7 Room) 7 3 (c .before .before .before .before .args .number) (omega arith) (omega arith) (λ h. absurd (h refl), (λ h. refl, (λ h. refl, tt))) (c .before .before .before .match .rest .1)
+returns-8 c = rw (c .match .keys1) refl
+
+returns-9 : tie.Need-returns-9
+returns-9 c = within (Unless 7 Room) 7 3 (c .before .before .before .before .args .number) (omega arith) (omega arith) (λ h. absurd (h refl), (λ h. refl, (λ h. refl, tt))) (c .before .before .before .match .rest .1)
 
 pub class-of-spec : {M : Type 1} → statement M
 class-of-spec =
     tie.close
-    (tie.spec returns returns-2 returns-3 returns-4 returns-5 returns-6 returns-7 returns-8)
+    (tie.spec returns returns-2 returns-3 returns-4 returns-5 returns-6 returns-7 returns-8 returns-9)

@@ -1,7 +1,6 @@
 -- `planner::list::looping_pair` meets its contract. The invariant: no pair passed closes a loop, and the rows spell the chains of those passed.
 -- Assumes nothing.
 use Prim.Native.Nat.{ℕ, _-_, _/_, _≤_, _<_}
-use mathlib.Core.Path.{refl, sym, _∙_}
 use native.Mathlib.Omega.{arith}
 use borrow.Author.Count.{below-none, below-more}
 use borrow.Author.Needs.{needs}
@@ -9,8 +8,8 @@ use lib.ListN.{length}
 use Rattle.planner.specs.List.{order-at}
 use Rattle.refusal.specs.Table.{Clear}
 use Rattle.planner.specs.Inner.List.{Spells}
-use Rattle.planner.proofs.Growing.{true-T, false-T}
-use Rattle.planner.proofs.Pairs.{held-both, looping-is, spells-more, spells-held}
+use Rattle.planner.proofs.Pairs.{held-both, earned, spells-more, spells-all, spells-held}
+use Rattle.planner.proofs.ListSound.{found-at, none-at}
 use Rattle.planner.proofs.list.looping_pair.Statement.{statement}
 use Rattle.planner.proofs.list.looping_pair.Tie as tie
 
@@ -49,20 +48,9 @@ returns : tie.Need-returns Inv-loop μ-loop
 returns c =
     let p = c .before .before .before .before .before .before in
     record {
-      first = record {
-        within = search needs;
-        before = p .loop .inv .1;
-        found = λ l. (
-          6,
-          (
-            looping-is _ _ _ _ _ (p .loop .inv .2) (c .before .before .before .before .named .ensures) (c .before .before .before .named2 .ensures) .0
-                (true-T _ (sym (c .before .closes .ensures) ∙ c .if1 .taken)),
-            refl,
-            refl,
-          ),
-        );
-      };
-      spells = p .loop .inv .2;
+      numbers = found-at _ _ _ _ (search needs) (p .loop .inv .1) (c .if1 .taken)
+          (earned _ _ _ _ _ _ (p .loop .inv .2) (c .before .before .before .before .named .ensures) (c .before .before .before .named2 .ensures) (c .before .closes .ensures) .some (c .if1 .taken));
+      spells = λ e. absurd (c .if1 .taken e);
     }
 
 follow-requires : tie.Need-follow-requires Inv-loop μ-loop
@@ -84,12 +72,14 @@ loop-again c =
     let a = c .before .before .before .before .before .before .named .ensures in
     let b = c .before .before .before .before .before .named2 .ensures in (
       search needs,
-      below-more _ _ (p .loop .inv .1) (λ u. false-T _ (sym (c .before .before .before .closes .ensures) ∙ c .before .before .if1 .left) (looping-is _ _ _ _ _ (p .loop .inv .2) a b .1 u)),
+      below-more _ _ (p .loop .inv .1) (earned _ _ _ _ _ _ (p .loop .inv .2) a b (c .before .before .before .closes .ensures) .none (c .before .before .if1 .left)),
       spells-more _ _ _ _ (p .loop .inv .2) (rw (a, b) at (c .follow .ensures)),
     )
 
 returns-2 : tie.Need-returns-2 Inv-loop μ-loop
-returns-2 c = record { first = record { within = search needs; before = c .before .loop .inv .1; found = λ l. absurd (omega arith) }; spells = c .before .loop .inv .2 }
+returns-2 c =
+    let p = c .before .loop in
+    record { numbers = none-at _ _ _ _ (search needs) (p .inv .1); spells = λ e. spells-all _ _ _ _ (p .inv .0) (search needs) (p .inv .2) }
 
 pub looping-pair-spec : {M : Type 1} → statement M
 looping-pair-spec =

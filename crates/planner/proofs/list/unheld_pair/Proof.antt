@@ -6,9 +6,10 @@ use borrow.Author.Count.{below-none, below-more}
 use borrow.Author.Needs.{needs}
 use lib.ListN.{length}
 use mathlib.Core.Path.{refl}
-use mathlib.Core.Logic.{inl, inr, ⊎-elim}
+use mathlib.Core.Logic.{inl, inr}
 use Rattle.planner.specs.List.{pair-at}
 use Rattle.refusal.specs.Table.{Clear}
+use Rattle.planner.proofs.ListSound.{found-at, none-at}
 use Rattle.planner.proofs.list.unheld_pair.Statement.{statement}
 use Rattle.planner.proofs.list.unheld_pair.Tie as tie
 
@@ -30,7 +31,7 @@ named-requires c κs = search needs
 returns : tie.Need-returns Inv-loop μ-loop
 returns c =
     let p = c .before .before .before .before .loop in
-    record { within = search needs; before = p .inv .1; found = λ l. (5, (inl (omega arith), refl, refl)) }
+    found-at _ _ _ _ (search needs) (p .inv .1) (λ e. omega arith) (inl (omega arith, refl, refl))
 
 mul-named-2 : tie.Need-mul-named-2 Inv-loop μ-loop
 mul-named-2 c = search needs
@@ -44,7 +45,7 @@ named-requires-2 c κs = search needs
 returns-2 : tie.Need-returns-2 Inv-loop μ-loop
 returns-2 c =
     let p = c .before .before .before .before .before .before .before .loop in
-    record { within = search needs; before = p .inv .1; found = λ l. (5, (inr (omega arith), refl, refl)) }
+    found-at _ _ _ _ (search needs) (p .inv .1) (λ e. omega arith) (inr ((λ g. omega arith), (omega arith, refl, refl)))
 
 add-p : tie.Need-add-p Inv-loop μ-loop
 add-p c = search needs
@@ -55,10 +56,10 @@ loop-less c = search needs
 loop-again : tie.Need-loop-again Inv-loop μ-loop
 loop-again c =
     let p = c .before .before .before .before .before .before .before .loop in
-    (search needs, below-more _ _ (p .inv .1) (λ u. ⊎-elim (λ x. omega arith) (λ x. omega arith) u))
+    (search needs, below-more _ _ (p .inv .1) ((λ x. omega arith), λ x. omega arith))
 
 returns-3 : tie.Need-returns-3 Inv-loop μ-loop
-returns-3 c = record { within = search needs; before = c .before .loop .inv .1; found = λ l. absurd (omega arith) }
+returns-3 c = none-at _ _ _ _ (search needs) (c .before .loop .inv .1)
 
 pub unheld-pair-spec : {M : Type 1} → statement M
 unheld-pair-spec =

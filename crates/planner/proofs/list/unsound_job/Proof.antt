@@ -1,12 +1,12 @@
 -- `planner::list::unsound_job` meets its contract. The invariant: no job passed has a fault.
 -- Assumes nothing.
 use Prim.Native.Nat.{ℕ, _<_, _-_, _≤_}
-use native.Mathlib.Omega.{arith}
 use borrow.Author.Count.{below-none, below-more}
 use borrow.Author.Needs.{needs}
 use lib.ListN.{length}
 use Rattle.planner.specs.List.{job-at}
 use Rattle.refusal.specs.Table.{Clear}
+use Rattle.planner.proofs.ListSound.{found-at, none-at}
 use Rattle.planner.proofs.list.unsound_job.Statement.{statement}
 use Rattle.planner.proofs.list.unsound_job.Tie as tie
 
@@ -37,7 +37,7 @@ fault-requires c κs = search needs
 returns : tie.Need-returns Inv-loop μ-loop
 returns c =
     let p = c .before .before .before .before .before .loop in
-    record { within = search needs; before = p .inv .1; found = λ l. (c .before .fault .result, c .before .fault .ensures .some (c .if1 .taken) _) }
+    found-at _ _ _ _ (search needs) (p .inv .1) (c .if1 .taken) (c .before .fault .ensures _ .some (c .if1 .taken))
 
 add-i : tie.Need-add-i Inv-loop μ-loop
 add-i c = search needs
@@ -48,10 +48,10 @@ loop-less c = search needs
 loop-again : tie.Need-loop-again Inv-loop μ-loop
 loop-again c =
     let p = c .before .before .before .before .before .loop in
-    (search needs, below-more _ _ (p .inv .1) (c .before .fault .ensures .none (c .if1 .left) 0))
+    (search needs, below-more _ _ (p .inv .1) (c .before .fault .ensures 0 .none (c .if1 .left)))
 
 returns-2 : tie.Need-returns-2 Inv-loop μ-loop
-returns-2 c = record { within = search needs; before = c .before .loop .inv .1; found = λ l. absurd (omega arith) }
+returns-2 c = none-at _ _ _ _ (search needs) (c .before .loop .inv .1)
 
 pub unsound-job-spec : {M : Type 1} → statement M
 unsound-job-spec =

@@ -27,12 +27,12 @@ fault-requires c κs = search needs
 returns-2 : tie.Need-returns-2
 returns-2 c = (
   omega (arith, c .if2 .taken),
-  λ L t. refused _ _ (inl (inr ((λ f. omega (arith, size-is L _ t, c .before .before .before .wide .ensures .0)), c .before .fault .ensures .some (c .if2 .taken) 0))) refl,
+  λ L t. refused _ _ (inl (inr ((λ f. omega (arith, size-is L _ t, c .before .before .before .wide .ensures .0)), c .before .fault .ensures 0 .some (c .if2 .taken)))) refl,
 )
 
 -- the job has no fault of its own
 clear : (c : tie.Else2) → let a = c .before .before .before .before .before .args in Clear (times-checks 0 (a .start) (a .deadline))
-clear c = c .before .fault .ensures .none (c .if2 .left) 0
+clear c = c .before .fault .ensures 0 .none (c .if2 .left)
 
 add-times : tie.Need-add-times
 add-times c = search needs

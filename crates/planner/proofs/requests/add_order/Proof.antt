@@ -24,17 +24,22 @@ wide-requires : tie.Need-wide-requires
 wide-requires c κs = search needs
 
 returns : tie.Need-returns
-returns c = (omega arith, λ L t. refused _ _ (inl (inl (inl (omega (arith, size-is L _ t, c .before .wide .ensures .0)), refl, refl))) refl)
+returns c = (omega arith, λ L t. refused _ _ (inl (inl (inl (omega (arith, size-is L _ t, c .before .wide .ensures .0), refl, refl)))) refl)
 
 returns-2 : tie.Need-returns-2
-returns-2 c = (omega arith, λ L t. refused _ _ (inl (inl (inr (omega (arith, size-is L _ t, c .before .before .wide .ensures .0)), refl, refl))) refl)
+returns-2 c = (
+  omega arith,
+  λ L t.
+      let w = c .before .before .wide .ensures .0 in
+      refused _ _ (inl (inl (inr ((λ x. omega (arith, size-is L _ t, w)), (omega (arith, size-is L _ t, w), refl, refl))))) refl,
+)
 
 returns-3 : tie.Need-returns-3
 returns-3 c = (
   omega arith,
   λ L t.
       let w = c .before .before .before .wide .ensures .0 in
-      refused _ _ (inl (inr (order-held L _ t _ _ (omega (arith, w)) (omega (arith, w)), (inl (omega arith), refl, refl)))) refl,
+      refused _ _ (inl (inr (order-held L _ t _ _ (omega (arith, w)) (omega (arith, w)), inl (omega arith, refl, refl)))) refl,
 )
 
 mul-has : tie.Need-mul-has
@@ -53,7 +58,7 @@ returns-4 c = (
       let w = c .before .before .before .before .before .before .wide .ensures .0 in
       refused _ _ (inl (inr (
         order-held L _ t _ _ (omega (arith, w)) (omega (arith, w)),
-        (inr (order-back L _ t _ _ (omega (arith, w)) (omega (arith, w)) (sym (c .before .has .ensures) ∙ c .if4 .taken)), refl, refl),
+        inr (c .before .before .before .if3 .left, (order-back L _ t _ _ (omega (arith, w)) (omega (arith, w)) (sym (c .before .has .ensures) ∙ c .if4 .taken), refl, refl)),
       ))) refl,
 )
 
@@ -61,7 +66,7 @@ returns-4 c = (
 sound : (c : tie.Else4) (L : Listed) → let s = c .before .before .before .before .before .before .before .before in Told (held (s .args .times .now) (s .args .before .now)) L → Sound L (Before (s .args .first) (s .args .second))
 sound c L t =
     let w = c .before .before .before .before .before .before .wide .ensures .0 in
-    (order-held L _ t _ _ (omega (arith, w)) (omega (arith, w)), order-free L _ t _ _ (omega (arith, w)) (omega (arith, w)) (c .before .before .before .if3 .left) (sym (c .before .has .ensures) ∙ c .if4 .left))
+    (order-held L _ t _ _ (omega (arith, w)) (omega (arith, w)), order-free L _ t _ _ (omega (arith, w)) (omega (arith, w)) (c .before .before .before .if3 .left) (false-T _ (sym (c .before .has .ensures) ∙ c .if4 .left)))
 
 mul-has-2 : tie.Need-mul-has-2
 mul-has-2 c = search needs
