@@ -1,12 +1,12 @@
--- `planner::list::closes` meets its contract.
+-- `planner::entries::closes` meets its contract.
 -- Assumes nothing.
 use mathlib.Core.Logic.{inl, inr}
 use mathlib.Core.Path.{refl, sym, _∙_}
 use native.Mathlib.Omega.{arith}
 use borrow.Author.Needs.{needs}
 use Rattle.planner.proofs.Growing.{true-T, false-T}
-use Rattle.planner.proofs.list.closes.Statement.{statement}
-use Rattle.planner.proofs.list.closes.Tie as tie
+use Rattle.planner.proofs.entries.closes.Statement.{statement}
+use Rattle.planner.proofs.entries.closes.Tie as tie
 
 returns : tie.Need-returns
 returns c orders place e = record { none = λ z. absurd (omega arith); some = λ z. inl (omega arith, refl, refl) }

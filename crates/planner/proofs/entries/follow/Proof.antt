@@ -1,4 +1,4 @@
--- `planner::list::follow` meets its contract.
+-- `planner::entries::follow` meets its contract.
 -- Assumes nothing.
 use mathlib.Core.Logic.{inl, inr}
 use mathlib.Core.Path.{refl, sym, _∙_}
@@ -7,8 +7,8 @@ use borrow.Author.Tests.{not-false}
 use Rattle.planner.proofs.Pending.{rows-long, joined-links}
 use Rattle.planner.proofs.Growing.{true-T}
 use borrow.Author.Needs.{needs}
-use Rattle.planner.proofs.list.follow.Statement.{statement}
-use Rattle.planner.proofs.list.follow.Tie as tie
+use Rattle.planner.proofs.entries.follow.Statement.{statement}
+use Rattle.planner.proofs.entries.follow.Tie as tie
 
 mul-has : tie.Need-mul-has
 mul-has c = search needs

@@ -1,4 +1,4 @@
--- `planner::list::looping_pair` meets its contract. The invariant: no pair passed closes a loop, and the rows spell the chains of those passed.
+-- `planner::entries::looping_pair` meets its contract. The invariant: no pair passed closes a loop, and the rows spell the chains of those passed.
 -- Assumes nothing.
 use Prim.Native.Nat.{ℕ, _-_, _/_, _≤_, _<_}
 use native.Mathlib.Omega.{arith}
@@ -7,11 +7,11 @@ use borrow.Author.Needs.{needs}
 use lib.ListN.{length}
 use Rattle.planner.specs.List.{order-at}
 use Rattle.refusal.specs.Table.{Clear}
-use Rattle.planner.specs.Inner.List.{Spells}
+use Rattle.planner.specs.Inner.Entries.{Spells}
 use Rattle.planner.proofs.Pairs.{held-both, earned, spells-more, spells-all, spells-held}
 use Rattle.planner.proofs.ListSound.{found-at, none-at}
-use Rattle.planner.proofs.list.looping_pair.Statement.{statement}
-use Rattle.planner.proofs.list.looping_pair.Tie as tie
+use Rattle.planner.proofs.entries.looping_pair.Statement.{statement}
+use Rattle.planner.proofs.entries.looping_pair.Tie as tie
 
 abbrev Inv-loop : tie.InvT-loop
 Inv-loop size pairs rows₀ count p₀ rows p = (p ≤ length pairs / 2) × ((j : ℕ) → j < p → Clear (order-at pairs j)) × Spells pairs p rows

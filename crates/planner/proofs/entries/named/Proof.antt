@@ -1,9 +1,9 @@
--- `planner::list::named` meets its contract.
+-- `planner::entries::named` meets its contract.
 -- Assumes nothing.
 use native.Mathlib.Omega.{arith}
 use borrow.Author.Needs.{needs}
-use Rattle.planner.proofs.list.named.Statement.{statement}
-use Rattle.planner.proofs.list.named.Tie as tie
+use Rattle.planner.proofs.entries.named.Statement.{statement}
+use Rattle.planner.proofs.entries.named.Tie as tie
 
 mul-t3 : tie.Need-mul-t3
 mul-t3 c = search needs

@@ -1,4 +1,4 @@
--- `planner::list::unheld_pair` meets its contract. The invariant: every pair passed is held.
+-- `planner::entries::unheld_pair` meets its contract. The invariant: every pair passed is held.
 -- Assumes nothing.
 use Prim.Native.Nat.{ℕ, _<_, _-_, _≤_, _/_}
 use native.Mathlib.Omega.{arith}
@@ -10,8 +10,8 @@ use mathlib.Core.Logic.{inl, inr}
 use Rattle.planner.specs.List.{pair-at}
 use Rattle.refusal.specs.Table.{Clear}
 use Rattle.planner.proofs.ListSound.{found-at, none-at}
-use Rattle.planner.proofs.list.unheld_pair.Statement.{statement}
-use Rattle.planner.proofs.list.unheld_pair.Tie as tie
+use Rattle.planner.proofs.entries.unheld_pair.Statement.{statement}
+use Rattle.planner.proofs.entries.unheld_pair.Tie as tie
 
 abbrev Inv-loop : tie.InvT-loop
 Inv-loop pairs size count p₀ p = (p ≤ length pairs / 2) × ((j : ℕ) → j < p → Clear (pair-at size pairs j))

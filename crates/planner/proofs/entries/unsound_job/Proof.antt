@@ -1,4 +1,4 @@
--- `planner::list::unsound_job` meets its contract. The invariant: no job passed has a fault.
+-- `planner::entries::unsound_job` meets its contract. The invariant: no job passed has a fault.
 -- Assumes nothing.
 use Prim.Native.Nat.{ℕ, _<_, _-_, _≤_}
 use borrow.Author.Count.{below-none, below-more}
@@ -7,8 +7,8 @@ use lib.ListN.{length}
 use Rattle.planner.specs.List.{job-at}
 use Rattle.refusal.specs.Table.{Clear}
 use Rattle.planner.proofs.ListSound.{found-at, none-at}
-use Rattle.planner.proofs.list.unsound_job.Statement.{statement}
-use Rattle.planner.proofs.list.unsound_job.Tie as tie
+use Rattle.planner.proofs.entries.unsound_job.Statement.{statement}
+use Rattle.planner.proofs.entries.unsound_job.Tie as tie
 
 abbrev Inv-loop : tie.InvT-loop
 Inv-loop starts deadlines i₀ i = (i ≤ length starts) × ((j : ℕ) → j < i → Clear (job-at starts deadlines j))
