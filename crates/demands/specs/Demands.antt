@@ -76,7 +76,7 @@ pub record Demand2 : Type 1 where
 -- ---- 3. "Take any run of new jobs, new orders and earlier deadlines on a book that began empty, and strike out the refused ones": `Run L k`, where L is the remaining list
 pub record Demand3 : Type 0 where
   -- "The tightened deadlines .. are then exactly those that the definition gives for the remaining list"
-  pub held : (L : Listed) (k : Book) → Run L k → Told k L
+  pub told : (L : Listed) (k : Book) → Run L k → Told k L
   -- "handed in at once": in whatever rows, it is accepted unless their form is bad, and the receiving row gets the book's latest times
   pub at-once : (starts deadlines pairs old : List ℕ) (k : Book) (r : Judged) → Run (list-of starts deadlines pairs) k → (Misshapen starts deadlines pairs old → ⊥) →
       Judges starts deadlines pairs old r → (r .number ≡ 0) × ((i : ℕ) → i < k .size → getD (r .row) i 0 ≡ latest-of k i)

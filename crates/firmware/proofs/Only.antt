@@ -6,8 +6,8 @@ use mathlib.Core.Path.{_≡_, sym, ap₂, _∙_}
 use Prim.Native.Nat.{ℕ}
 use lib.Dec.{eqb}
 use lib.ListN.{length}
-use Rattle.book.specs.Told.{Book, held, Made}
-use Rattle.book.proofs.Parts.{held-one}
+use Rattle.book.specs.Told.{Book, book-in, Made}
+use Rattle.book.proofs.Parts.{book-in-one}
 use Rattle.planner.specs.declared.requests.Request.{Request}
 use Rattle.planner.specs.Requests.{Applied, answered, Applies}
 use Rattle.planner.proofs.Outcome.{applies-only}
