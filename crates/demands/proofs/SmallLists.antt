@@ -17,7 +17,7 @@ use Rattle.schedule.specs.Listed.{Listed, Looped, Formed, written}
 use Rattle.schedule.proofs.Tests.{le-or-lt, says-le, says-lt, says-eq, says-not, says-and, says-or}
 use Rattle.schedule.proofs.Choice.{says-all}
 use Rattle.schedule.proofs.Loop.{bytes-length}
-use Rattle.schedule.proofs.Same.{holds-one, plan-one, finish-one, bytes-one}
+use Rattle.schedule.proofs.Readings.{holds-one, plan-one, finish-one, bytes-one}
 use Rattle.schedule.proofs.Onward.{holds-planned}
 use Rattle.schedule.proofs.Certify.{entry}
 use Rattle.schedule.proofs.Certify as certify
@@ -115,10 +115,10 @@ module _ (L : Listed) (times plan : List ℕ) (n : ℕ) (low : T (all (length (L
   finished =
       let f : ℕ = finish (a .jobs) (slots 2 (a .jobs) (entry times) 9 9) in
       let same : f ≡ finish-of k = finish-one L (a .jobs) (jobs-of k) (entry times) (latest-of k) (a .holds) (told .holds) 9 9 4096 4096 top (omega arith) (omega arith) (omega arith) in
-      omega (arith, bytes-length (a .jobs) (entry times) 9 f, ap length (a .made))
+      omega (arith, bytes-length (a .jobs) (entry times) 9 f, ap length (a .plan-is))
 
   spelled : bytes-of k ≡ plan
-  spelled = sym (bytes-one L (a .jobs) (jobs-of k) (entry times) (latest-of k) (a .holds) (told .holds) 9 9 4096 4096 top (omega arith) (omega arith) (omega arith)) ∙ a .made
+  spelled = sym (bytes-one L (a .jobs) (jobs-of k) (entry times) (latest-of k) (a .holds) (told .holds) 9 9 4096 4096 top (omega arith) (omega arith) (omega arith)) ∙ a .plan-is
 
   laid : (old new : List ℕ) (number value : ℕ) → 2 * n ≤ length old → Plans k old new number value → (number ≡ 0) × (value ≡ n) × (new ≡ plan ++ drop (2 * n) old)
   laid old new number value room (checks.refused c v f e) = absurd (omega (arith, finished, f .0))

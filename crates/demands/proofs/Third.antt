@@ -14,7 +14,7 @@ use Rattle.schedule.specs.Times.{Beneath}
 use Rattle.schedule.specs.Make.{slots, bytes}
 use Rattle.schedule.specs.Listed.{Listed}
 use Rattle.schedule.specs.Book.{Holds}
-use Rattle.schedule.proofs.Same.{finish-one, bytes-one}
+use Rattle.schedule.proofs.Readings.{finish-one, bytes-one}
 use Rattle.refusal.specs.Table.{refused, passed}
 use Rattle.refusal.proofs.Table.{table-caught, table-free}
 use Rattle.book.specs.Told.{Book, jobs-of, latest-of, Told}

@@ -9,7 +9,7 @@ use lib.Dec.{T}
 use lib.ListN.{length, take, replicate, length-append}
 use Rattle.schedule.specs.Listed.{Listed}
 use Rattle.book.specs.Told.{Book, Told, Made, nothing-listed}
-use Rattle.book.proofs.Same.{told-one}
+use Rattle.book.proofs.OneBook.{told-one}
 use Rattle.planner.specs.Requests.{grow, answered, Applied}
 use Rattle.records.specs.declared.Record.{Record}
 use Rattle.records.specs.Record.{bytes-of, length-of, Stands}

@@ -7,7 +7,7 @@ use lib.ListN.{length, drop}
 use Rattle.refusal.specs.Table.{One}
 use Rattle.refusal.proofs.Table.{table-one}
 use Rattle.book.specs.Told.{Book, nothing-listed}
-use Rattle.book.proofs.Same.{told-one}
+use Rattle.book.proofs.OneBook.{told-one}
 use Rattle.jobfile.specs.Reader.{Step}
 use Rattle.jobfile.specs.File.{SingleReads}
 use Rattle.jobfile.proofs.Single.{single-reads-one}

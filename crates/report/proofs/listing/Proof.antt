@@ -6,7 +6,7 @@ use borrow.Author.Needs.{needs}
 use Rattle.refusal.specs.Table.{refused}
 use Rattle.book.specs.Told.{Book, book-in}
 use Rattle.report.specs.Line.{too-long-line}
-use Rattle.report.proofs.Whole.{lists-by, FileRead, row-length, book-made, no-nine, listed}
+use Rattle.report.proofs.Assembled.{lists-by, FileRead, row-length, book-made, no-nine, listed}
 use Rattle.report.proofs.listing.Statement.{statement}
 use Rattle.report.proofs.listing.Tie as tie
 
