@@ -59,7 +59,7 @@ pub record Limited (L : Listed) : Type 0 where
   pub start : (i : ℕ) → i < length (L .starts) → getD (L .starts) i 0 ≤ 4095
   pub deadline : (i : ℕ) → i < length (L .starts) → written L i ≤ 4096
 
--- the book holds the list L (01, Requests on a book)
+-- a book's fields are what the definition gives for the list L, `Holds` (01, Requests on a book)
 pub record Told (k : Book) (L : Listed) : Type 0 where
   pub shaped : Shaped k
   pub limited : Limited L

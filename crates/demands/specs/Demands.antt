@@ -23,7 +23,7 @@ use Rattle.plan.specs.Plan.{horizon, unplaced, Plans}
 use Rattle.plan.specs.Place.{Places}
 use Rattle.records.specs.declared.Record.{Record}
 use Rattle.records.specs.Record.{length-of, Stands}
-use Rattle.jobfile.specs.Reader.{Step, ReadsRecord}
+use Rattle.jobfile.specs.Reader.{AfterRead, ReadsRecord}
 use Rattle.jobfile.specs.Writer.{WritesBook}
 use Rattle.jobfile.specs.RoundTrip.{ReadsBack}
 use Rattle.firmware.specs.Plans.{FindsPlace}
@@ -41,7 +41,7 @@ pub record Demand1 : Type 0 where
   -- the calls for firmware promise these same relations of lent memory, in numbers; a place goes into four lent numbers, and a refusal leaves them
   pub place-lent : (k : Book) (job n : ℕ) (old new : List ℕ) → FindsPlace k job old new n → 1 ≤ n → Numbered n × (new ≡ old)
   -- one record read: a refused request moves the offset past its record, a stop leaves it; 255 is the end of the file and no refusal
-  pub record-read : (k : Book) (file : List ℕ) (at : ℕ) (r : Step) → Made k → ReadsRecord k file at r → 1 ≤ r .number → (r .number ≡ 255 → ⊥) →
+  pub record-read : (k : Book) (file : List ℕ) (at : ℕ) (r : AfterRead) → Made k → ReadsRecord k file at r → 1 ≤ r .number → (r .number ≡ 255 → ⊥) →
       Numbered (r .number) × (r .book ≡ k) × ((r .at ≡ at) ⊎ ((told : Record) × Stands file at told × (r .at ≡ at + length-of told)))
   pub written : (k : Book) (old new : List ℕ) (n v : ℕ) → WritesBook k old new n v → 1 ≤ n → Numbered n × (new ≡ old)
 

@@ -17,4 +17,4 @@ use Rattle.firmware.specs.Plans.{FindsPlace}
 pub finds-place-only : (k : Book) (job : ℕ) (old new other : List ℕ) (n m : ℕ) → FindsPlace k job old new n → FindsPlace k job old other m → (n ≡ m) × (new ≡ other)
 finds-place-only k job old new other n m x y =
     let e = places-only k job n m (x .values) (y .values) (x .places) (y .places) in
-    (e .0, x .told ∙ ap₂ (λ (number : ℕ) (values : List ℕ). cond (eqb number 0) values old) (e .0) (e .1) ∙ sym (y .told))
+    (e .0, x .lent ∙ ap₂ (λ (number : ℕ) (values : List ℕ). cond (eqb number 0) values old) (e .0) (e .1) ∙ sym (y .lent))

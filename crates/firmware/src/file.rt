@@ -4,7 +4,7 @@ use book::Times;
 use jobfile::Event;
 ghost use mathlib.Core.Path.{_≡_};
 ghost use Rattle.book.specs.Told.{Made, book-in};
-ghost use Rattle.jobfile.specs.Reader.{ReadsRecord, step, event-number, event-value};
+ghost use Rattle.jobfile.specs.Reader.{ReadsRecord, after-read, event-number, event-value};
 ghost use Rattle.jobfile.specs.Writer.{WritesBook};
 
 #[no_mangle]
@@ -16,7 +16,7 @@ pub extern "C" fn firmware_read(
     answer: &mut usize,
 ) -> u8
     requires { ⌜ Made (book-in (now times) (now before)) ⌝ }
-    ensures { λ r. ⌜ ReadsRecord (book-in (now (times .entry)) (now (before .entry))) (now (file .entry)) (now (at .entry)) (step (book-in (now (times .exit)) (now (before .exit))) (now (at .exit)) r (now (answer .exit))) ⌝ }
+    ensures { λ r. ⌜ ReadsRecord (book-in (now (times .entry)) (now (before .entry))) (now (file .entry)) (now (at .entry)) (after-read (book-in (now (times .exit)) (now (before .exit))) (now (at .exit)) r (now (answer .exit))) ⌝ }
 {
     let event = jobfile::read(times, before, file, at);
     *answer = value(event);

@@ -4,7 +4,7 @@ use crate::reader::Event;
 use book::Before;
 use book::Times;
 ghost use Rattle.book.specs.Told.{Made, book-in};
-ghost use Rattle.jobfile.specs.Reader.{Tells, step};
+ghost use Rattle.jobfile.specs.Reader.{Tells, after-read};
 ghost use Rattle.jobfile.specs.File.{ReadsFile};
 
 // How many records were read, how far, and why it ended there.
@@ -22,7 +22,7 @@ pub fn read_file(
     answers: &mut [u8; 4096],
 ) -> Ended
     requires { ⌜ Made (book-in (now times) (now before)) ⌝ }
-    ensures { λ r. ⌜ Tells (r .event) (λ n v. ReadsFile (book-in (now (times .entry)) (now (before .entry))) (now (file .entry)) (now (answers .entry)) (now (answers .exit)) (r .records) (step (book-in (now (times .exit)) (now (before .exit))) (r .at) n v)) ⌝ }
+    ensures { λ r. ⌜ Tells (r .event) (λ n v. ReadsFile (book-in (now (times .entry)) (now (before .entry))) (now (file .entry)) (now (answers .entry)) (now (answers .exit)) (r .records) (after-read (book-in (now (times .exit)) (now (before .exit))) (r .at) n v)) ⌝ }
 {
     let mut at: usize = 0;
     let mut records: usize = 0;
