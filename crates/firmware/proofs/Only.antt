@@ -1,4 +1,4 @@
--- What the calls leave is one: a place in four lent numbers, a lateness in one, and a book in two lent parts.
+-- What the calls leave is one: a place in four lent numbers, and a lateness in one.
 -- Assumes nothing.
 use mathlib.Core.Bool.{cond}
 use mathlib.Core.List.{List}
@@ -6,12 +6,7 @@ use mathlib.Core.Path.{_≡_, sym, ap, ap₂, _∙_}
 use Prim.Native.Nat.{ℕ}
 use lib.Dec.{eqb}
 use lib.IntN.{ℤ, pos, negsuc}
-use lib.ListN.{length}
-use Rattle.book.specs.Told.{Book, held, Made}
-use Rattle.book.proofs.Parts.{held-one}
-use Rattle.planner.specs.declared.requests.Request.{Request}
-use Rattle.planner.specs.Requests.{Applied, answered, Applies}
-use Rattle.planner.proofs.Outcome.{applies-only}
+use Rattle.book.specs.Told.{Book}
 use Rattle.planner.proofs.HowLate.{latens-only}
 use Rattle.plan.proofs.Only.{places-only}
 use Rattle.firmware.specs.List.{FindsLateness}
@@ -20,7 +15,7 @@ use Rattle.firmware.specs.Plans.{FindsPlace}
 pub finds-place-only : (k : Book) (job : ℕ) (old new other : List ℕ) (n m : ℕ) → FindsPlace k job old new n → FindsPlace k job old other m → (n ≡ m) × (new ≡ other)
 finds-place-only k job old new other n m x y =
     let e = places-only k job n m (x .values) (y .values) (x .places) (y .places) in
-    (e .0, x .told ∙ ap₂ (λ (number : ℕ) (values : List ℕ). cond (eqb number 0) values old) (e .0) (e .1) ∙ sym (y .told))
+    (e .0, x .lent ∙ ap₂ (λ (number : ℕ) (values : List ℕ). cond (eqb number 0) values old) (e .0) (e .1) ∙ sym (y .lent))
 
 pub finds-lateness-only : (starts deadlines pairs : List ℕ) (old new other : ℤ) (n m a b : ℕ) → FindsLateness starts deadlines pairs old new n a → FindsLateness starts deadlines pairs old other m b →
     (n ≡ m) × (new ≡ other) × (a ≡ b)

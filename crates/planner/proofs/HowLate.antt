@@ -21,7 +21,7 @@ use Rattle.schedule.specs.Theory.Lowest.{Lowest, Narrowed}
 use Rattle.schedule.proofs.Tests.{le-by}
 use Rattle.schedule.proofs.Early.{exists-earliest}
 use Rattle.schedule.proofs.Chains.{reads-closed, reads-loopless}
-use Rattle.schedule.proofs.Same.{plan-one}
+use Rattle.schedule.proofs.Readings.{plan-one}
 use Rattle.schedule.proofs.Late.{lateness-iff, lateness-one, lateness-same, late-outset, lateness-ranged}
 use Rattle.schedule.proofs.Shortest.{shortest-iff, shortest-one, shortest-same, shortest-empty, short-outset}
 use Rattle.refusal.specs.Table.{refused, passed, One, Table}

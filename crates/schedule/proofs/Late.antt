@@ -19,7 +19,7 @@ use Rattle.schedule.proofs.Search.{decAny}
 use Rattle.schedule.specs.Theory.Lowest.{Lowest, Narrowed}
 use Rattle.schedule.proofs.Lowest.{lowest-one, lowest-along, rising-stays}
 use Rattle.schedule.proofs.Counting.{count-single, count-mono}
-use Rattle.schedule.proofs.Same.{plan-one}
+use Rattle.schedule.proofs.Readings.{plan-one}
 use Rattle.schedule.proofs.Clock.{clock-valid, end-late, clocked-iff-plan}
 use Rattle.schedule.proofs.Serial.{serial}
 
