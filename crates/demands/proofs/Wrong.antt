@@ -13,7 +13,7 @@ use Rattle.schedule.specs.Listed.{Listed, Reads, ordered, written, with-job}
 use Rattle.schedule.proofs.Counting.{count-bound}
 use Rattle.schedule.proofs.Chains.{jobs, jobs-reads}
 use Rattle.refusal.proofs.Table.{table-caught}
-use Rattle.book.specs.Told.{Book, held, Told}
+use Rattle.book.specs.Told.{Book, book-in, Told}
 use Rattle.book.proofs.Empty.{told-nothing}
 use Rattle.planner.specs.declared.requests.Request.{Request}
 use Rattle.planner.specs.declared.requests.Request.the-variants.{Job}
@@ -60,7 +60,7 @@ ones-plannable n few = (jobs (ones n), reads, ((λ i. 0), valid, record { ends =
     }
 
 abbrev empty : Book
-empty = held (replicate 129 0) (replicate 64 0)
+empty = book-in (replicate 129 0) (replicate 64 0)
 
 -- one job more
 one-more : (n : ℕ) → with-job (ones n) 0 1 ≡ ones (suc n)
@@ -89,7 +89,7 @@ module _ (call : Book → Request → Applied) (app : Applying call) where
 no-job : (r : Judged) → Judges [] [] [] [] r → r .number ≡ 0
 unfolding pairs-of
 no-job r j = list-accepted [] [] [] [] r j
-    ((λ f. ⊎-elim (λ g. g refl) (λ g. ⊎-elim (λ e. omega arith) (λ e. omega arith) g) f), ((λ f. omega arith), ((λ i l. absurd (omega arith)), ((λ i l. absurd (omega arith)), λ i l. absurd (omega arith)))))
+    ((λ f. ⊎-elim (λ u. ⊎-elim (λ g. g refl) (λ e. omega arith) u) (λ e. omega arith) f), ((λ f. omega arith), ((λ i l. absurd (omega arith)), ((λ i l. absurd (omega arith)), λ i l. absurd (omega arith)))))
     (ones-plannable 0 (omega arith)) .0
 
 pub shut-out : ShutOut

@@ -6,7 +6,7 @@ use mathlib.Core.Logic.{inl, inr}
 use mathlib.Core.Path.{_≡_, refl, sym, ap, ap₂, _∙_}
 use Prim.Native.Nat.{ℕ, suc, _-_, _/_, _^_, _≤_, _<_}
 use native.Mathlib.Omega.{arith}
-use lib.Dec.{ltb}
+use lib.Dec.{T, ltb}
 use lib.IntN.{ℤ, pos, negsuc}
 use lib.Signed.{mag}
 use lib.ListN.{length}
@@ -14,31 +14,34 @@ use mir.Syntax.{w16}
 use mir.Val.{SFits}
 use Rattle.schedule.specs.Jobs.{Jobs}
 use Rattle.schedule.specs.Plan.{HasPlan}
-use Rattle.schedule.specs.Listed.{Listed, written}
-use Rattle.schedule.specs.Late.{moved, InLimits}
+use Rattle.schedule.specs.Listed.{Listed, Reads, written}
+use Rattle.schedule.specs.Late.{Lateness, moved, InLimits, Ranged}
 use Rattle.schedule.specs.Shortest.{capped}
 use Rattle.schedule.specs.Theory.Lowest.{Lowest, Narrowed}
 use Rattle.schedule.proofs.Tests.{le-by}
 use Rattle.schedule.proofs.Early.{exists-earliest}
-use Rattle.schedule.proofs.Same.{plan-one}
-use Rattle.schedule.proofs.Late.{lateness-iff, lateness-one, lateness-same, late-outset}
+use Rattle.schedule.proofs.Chains.{reads-closed, reads-loopless}
+use Rattle.schedule.proofs.Readings.{plan-one}
+use Rattle.schedule.proofs.Late.{lateness-iff, lateness-one, lateness-same, late-outset, lateness-ranged}
 use Rattle.schedule.proofs.Shortest.{shortest-iff, shortest-one, shortest-same, shortest-empty, short-outset}
 use Rattle.refusal.specs.Table.{refused, passed, One, Table}
 use Rattle.refusal.specs.declared.Answer.{Answer}
 use Rattle.refusal.specs.Says.{Says}
-use Rattle.refusal.proofs.Table.{then-table, table-one}
+use Rattle.refusal.proofs.Table.{Each, each-map, among-each, then-table, table-one, table-past}
 use Rattle.refusal.proofs.Says.{says-more, says-only}
 use Rattle.book.specs.Told.{cores, jobs-in, row-in}
 use Rattle.planner.specs.Requests.{plan-check}
 use Rattle.planner.specs.List.{list-of, Uneven}
-use Rattle.planner.specs.Late.{Lates, late-checks, from-origin, LateAs, Latens, short-checks, ShortAs, Shortens}
+use Rattle.planner.specs.Late.{Lates, late-checks, from-origin, LateAs, Latens, lone-checks, short-checks, ShortAs, Shortens}
 use Rattle.planner.specs.declared.late.Late.{Late}
 use Rattle.planner.specs.declared.late.Late.the-variants.{By, Refused}
 use Rattle.planner.specs.declared.late.Trial.the-variants.{Moved, Capped}
 use Rattle.planner.specs.Inner.Entries.{Spells}
 use Rattle.planner.specs.Inner.List.{Judgeable}
 use Rattle.planner.specs.Inner.Late.{Leaves, Ends}
-use Rattle.planner.proofs.ListSound.{Sound, reads}
+use Rattle.planner.proofs.Outcome.{sound-number, sound-some}
+use Rattle.planner.proofs.ListOutcome.{entries-numbers}
+use Rattle.planner.proofs.ListSound.{Sound, loopless, even-by, sound-entries, reads}
 
 -- ---- a whole number in 16 bits
 pub origin-fits : (y : ℕ) → y ≤ 8254 → SFits w16 (from-origin y)
@@ -49,6 +52,21 @@ origin-fits y h = record { sfits = go (ltb y 4096) }
     go false = omega arith
 
 -- ---- a sound list that has jobs: how late
+module _ (starts deadlines pairs : List ℕ) (s : Sound starts deadlines pairs) (J : Jobs) (r : Reads (list-of starts deadlines pairs) J) where
+  limits : InLimits J (written (list-of starts deadlines pairs))
+  unfolding written
+  limits = record {
+    few = omega (arith, s .few, r .size);
+    start = λ i l. rw (r .start i l) (le-by _ 4095 (λ g. s .jobs i (omega (arith, r .size)) .0 (inl g)));
+    above = λ i l. le-by 1 _ (λ g. s .jobs i (omega (arith, r .size)) .1 (omega arith));
+    below = λ i l. le-by _ 4096 (λ g. s .jobs i (omega (arith, r .size)) .0 (inr g));
+  }
+
+  pub late-ranged : 0 < length starts → (y : ℕ) → Lateness cores J (written (list-of starts deadlines pairs)) 4096 y → Ranged y
+  late-ranged some y x =
+      let e = exists-earliest J (reads-closed (list-of starts deadlines pairs) J r) (reads-loopless (list-of starts deadlines pairs) J r (loopless starts deadlines pairs s)) in
+      lateness-ranged cores J (written (list-of starts deadlines pairs)) (e .0) (omega arith) (e .1) limits (omega (arith, r .size)) y x
+
 module _ (starts deadlines pairs before : List ℕ) (s : Sound starts deadlines pairs) (spells : Spells pairs (length pairs / 2) before) where
   abbrev L : Listed
   L = list-of starts deadlines pairs
@@ -56,19 +74,11 @@ module _ (starts deadlines pairs before : List ℕ) (s : Sound starts deadlines 
   abbrev J : Jobs
   J = jobs-in (length starts) starts before
 
-  limits : InLimits J (row-in deadlines)
-  limits = record {
-    few = s .few;
-    start = λ i l. le-by _ 4095 (λ g. s .jobs i l .0 (inl g));
-    above = λ i l. le-by 1 _ (λ g. s .jobs i l .1 (omega arith));
-    below = λ i l. le-by _ 4096 (λ g. s .jobs i l .0 (inr g));
-  }
-
   pub late-begins : Judgeable starts deadlines before → 0 < length starts → Narrowed (Leaves Moved starts deadlines before) 1 8254
-  unfolding moved
+  unfolding moved written
   late-begins j some =
       let e = exists-earliest J (j .closed) (j .loopless) in
-      late-outset cores J (row-in deadlines) (e .0) (omega arith) (e .1) limits some
+      late-outset cores J (row-in deadlines) (e .0) (omega arith) (e .1) (limits starts deadlines pairs s J (reads starts deadlines pairs before s spells)) some
 
   pub late-ends : (y : ℕ) → Lowest (Leaves Moved starts deadlines before) y → LateAs L (0, from-origin y)
   unfolding moved written
@@ -89,7 +99,7 @@ module _ (starts deadlines pairs before : List ℕ) (s : Sound starts deadlines 
 
   -- and so all of them
   pub ends-shortens : (Uneven starts deadlines pairs → ⊥) → (r : Answer) → Says r (Ends starts deadlines before) → Says r (Shortens starts deadlines pairs)
-  ends-shortens even r x = says-more (Ends starts deadlines before) (Shortens starts deadlines pairs) r (λ n v y. then-table even (then-table (λ g. omega (arith, s .few)) (then-table (s .jobs, (s .held .below, s .free)) (ends-says n v y)))) x
+  ends-shortens even r x = says-more (Ends starts deadlines before) (Shortens starts deadlines pairs) r (λ n v y. then-table (even, ((λ g. omega (arith, s .few)), (s .jobs, (s .held .below, s .free)))) (ends-says n v y)) x
 
 -- of rows that may be tightened
 module _ (starts deadlines before : List ℕ) (j : Judgeable starts deadlines before) where
@@ -115,6 +125,27 @@ module _ (starts deadlines before : List ℕ) (j : Judgeable starts deadlines be
   pub short-ends : Leaves Capped starts deadlines before 4096 → (end : ℕ) → Lowest (Leaves Capped starts deadlines before) end → Ends starts deadlines before 0 end
   unfolding capped
   short-ends p end x = passed (λ no. no (capped-all p)) (end, shortest-iff cores K (row-in deadlines) end .1 x, refl)
+
+-- ---- numbers, and what an answer of 0 has passed
+pub late-numbers : (starts deadlines pairs : List ℕ) → Each (λ n. T (sound-number n)) (late-checks starts deadlines pairs)
+late-numbers starts deadlines pairs = (tt, (tt, (tt, entries-numbers starts deadlines pairs)))
+
+pub lone-numbers : (starts deadlines pairs : List ℕ) → Each (λ n. T (sound-number n)) (lone-checks starts deadlines pairs)
+lone-numbers starts deadlines pairs = (tt, (tt, entries-numbers starts deadlines pairs))
+
+short-some : (starts deadlines pairs : List ℕ) → Each (λ n. 1 ≤ n) (short-checks starts deadlines pairs)
+short-some starts deadlines pairs = (each-map (λ n. T (sound-number n)) (λ n. 1 ≤ n) (lone-checks starts deadlines pairs) sound-some (lone-numbers starts deadlines pairs), omega arith)
+
+pub late-accepted : (starts deadlines pairs : List ℕ) (v : ℤ) → Latens starts deadlines pairs 0 v → Sound starts deadlines pairs × (0 < length starts) × LateAs (list-of starts deadlines pairs) (0, v)
+late-accepted starts deadlines pairs v x =
+    let y = table-past (late-checks starts deadlines pairs) (λ n v r. r ≡ (n, pos v)) (LateAs (list-of starts deadlines pairs)) (0, v)
+    (λ n w m e. omega (arith, ap (λ (p : ℕ × ℤ). p .0) e, among-each (λ n. 1 ≤ n) (late-checks starts deadlines pairs) n (each-map (λ n. T (sound-number n)) (λ n. 1 ≤ n) (late-checks starts deadlines pairs) sound-some (late-numbers starts deadlines pairs)) m)) x in
+    let c = y .0 in
+    (sound-entries starts deadlines pairs (even-by starts deadlines pairs (c .0)) (le-by _ 64 (c .1 .0)) (c .1 .1 .1), le-by 1 _ (λ l. c .1 .1 .0 (omega arith)), y .1)
+
+pub short-accepted : (starts deadlines pairs : List ℕ) (v : ℕ) → Shortens starts deadlines pairs 0 v → ShortAs (list-of starts deadlines pairs) (0, v)
+short-accepted starts deadlines pairs v x = table-past (short-checks starts deadlines pairs) (λ n v r. r ≡ (n, v)) (ShortAs (list-of starts deadlines pairs)) (0, v)
+    (λ n w m e. omega (arith, ap (λ (p : ℕ × ℕ). p .0) e, among-each (λ n. 1 ≤ n) (short-checks starts deadlines pairs) n (short-some starts deadlines pairs) m)) x .1
 
 -- ---- one outcome
 late-one : (L : Listed) → One (LateAs L)

@@ -17,10 +17,10 @@ use Rattle.refusal.proofs.Table.{Each, each-map, among-each, table-one, table-p
 use Rattle.refusal.proofs.Says.{says-only}
 use Rattle.book.specs.Told.{Book, Told, jobs-of, latest-of, row-in}
 use Rattle.planner.proofs.Outcome.{sound-number, sound-some, sound-other}
-use Rattle.planner.specs.List.{first-of, second-of, pairs-of, list-of, Misshapen, job-at, order-at, rows-checks, list-checks, Judged, judged, TurnedDown, Fitted, Judges, AsRequests}
+use Rattle.planner.specs.List.{first-of, second-of, pairs-of, list-of, Misshapen, job-at, order-at, entries-checks, rows-checks, list-checks, Judged, judged, TurnedDown, Fitted, Judges, AsRequests}
 use Rattle.planner.specs.Requests.{plan-check}
 use Rattle.planner.specs.Inner.Entries.{Held}
-use Rattle.schedule.proofs.Same.{holds-one}
+use Rattle.schedule.proofs.Readings.{holds-one}
 use Rattle.schedule.proofs.Onward.{holds-planned}
 use Rattle.planner.proofs.Growing.{size-is}
 use Rattle.planner.proofs.Pairs.{pairs-more, pairs-in}
@@ -49,8 +49,11 @@ list-answer-only starts deadlines pairs row after next r s x y =
     says-only _ _ r s (λ n v u w p o. let e = judges-only starts deadlines pairs row _ _ p o in (ap (λ (a : Judged). a .number) e, ap (λ (a : Judged). a .value) e)) x y
 
 -- ---- numbers
+pub entries-numbers : (starts deadlines pairs : List ℕ) → Each (λ n. T (sound-number n)) (entries-checks starts deadlines pairs)
+entries-numbers starts deadlines pairs = ((λ i. (tt, tt)), ((λ p. (tt, tt)), λ p. (tt, tt)))
+
 pub rows-numbers : (starts deadlines pairs row : List ℕ) → Each (λ n. T (sound-number n)) (rows-checks starts deadlines pairs row)
-rows-numbers starts deadlines pairs row = (tt, (tt, ((λ i. (tt, tt)), ((λ p. (tt, tt)), λ p. (tt, tt)))))
+rows-numbers starts deadlines pairs row = (tt, (tt, entries-numbers starts deadlines pairs))
 
 pub list-some : (starts deadlines pairs row : List ℕ) → Each (λ n. 1 ≤ n) (list-checks starts deadlines pairs row)
 list-some starts deadlines pairs row =

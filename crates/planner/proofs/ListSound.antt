@@ -21,7 +21,7 @@ use Rattle.planner.specs.Requests.{plan-check}
 use Rattle.planner.specs.List.{list-of, Uneven, job-at, order-at, entries-checks, rows-checks, SoundRows, Judged, judged, TurnedDown, Fitted, Judges}
 use Rattle.planner.specs.Inner.Entries.{Held, Spells}
 use Rattle.planner.specs.Inner.List.{Judgeable, Settles}
-use Rattle.schedule.proofs.Same.{reads-one, plan-one}
+use Rattle.schedule.proofs.Readings.{reads-one, plan-one}
 use Rattle.schedule.proofs.Onward.{holds-planned}
 use Rattle.refusal.specs.declared.Answer.{Answer}
 use Rattle.planner.specs.Inner.Numbers.{Numbers}

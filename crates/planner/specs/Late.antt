@@ -48,12 +48,12 @@ Latens starts deadlines pairs number value =
     Table {A = ℕ × ℤ} (late-checks starts deadlines pairs) (λ n v r. r ≡ (n, pos v)) (LateAs (list-of starts deadlines pairs)) (number, value)
 
 -- ---- how short
+-- the checks of a whole list, but that no row receives; all but 4
+abbrev pub lone-checks : List ℕ → List ℕ → List ℕ → Checks
+lone-checks starts deadlines pairs = check 7 0 (Uneven starts deadlines pairs) then check 1 0 (64 < length starts) then entries-checks starts deadlines pairs
+
 abbrev pub short-checks : List ℕ → List ℕ → List ℕ → Checks
-short-checks starts deadlines pairs =
-    check 7 0 (Uneven starts deadlines pairs)
-    then check 1 0 (64 < length starts)
-    then entries-checks starts deadlines pairs
-    then plan-check (list-of starts deadlines pairs)
+short-checks starts deadlines pairs = lone-checks starts deadlines pairs then plan-check (list-of starts deadlines pairs)
 
 -- accepted: some valid plan that meets the deadlines finishes then, and none sooner
 pub record ShortAs (L : Listed) (r : ℕ × ℕ) : Type 0 where

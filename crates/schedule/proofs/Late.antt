@@ -17,9 +17,9 @@ use Rattle.schedule.specs.Late.{LateBy, Lateness, moved, Movable, Clocke
 use Rattle.schedule.proofs.Tests.{eq→eqb, le-by}
 use Rattle.schedule.proofs.Search.{decAny}
 use Rattle.schedule.specs.Theory.Lowest.{Lowest, Narrowed}
-use Rattle.schedule.proofs.Lowest.{lowest-one, lowest-along}
+use Rattle.schedule.proofs.Lowest.{lowest-one, lowest-along, rising-stays}
 use Rattle.schedule.proofs.Counting.{count-single, count-mono}
-use Rattle.schedule.proofs.Same.{plan-one}
+use Rattle.schedule.proofs.Readings.{plan-one}
 use Rattle.schedule.proofs.Clock.{clock-valid, end-late, clocked-iff-plan}
 use Rattle.schedule.proofs.Serial.{serial}
 
@@ -45,6 +45,11 @@ module _ (m : ℕ) (J : Jobs) (due : ℕ → ℕ) (off : ℕ) where
   -- it is one number
   pub lateness-one : (y z : ℕ) → Lateness m J due off y → Lateness m J due off z → y ≡ z
   lateness-one y z a b = lowest-one (Movable m J due off) y z (lateness-iff y .0 a) (lateness-iff z .0 b)
+
+  -- every greater move leaves a plan, and no smaller one does
+  pub lateness-moved : (y : ℕ) → Lateness m J due off y → (z : ℕ) → Movable m J due off z ↔ (y ≤ z)
+  unfolding moved
+  lateness-moved y x z = (lateness-iff y .0 x .least z, λ h. rising-stays m J (moved due off) (λ j k i l. omega arith) y z h (lateness-iff y .0 x .member))
 
   -- a list has a plan exactly if its lateness is at most 0
   pub on-time : (y : ℕ) → Lateness m J due off y → HasPlan m J due ↔ (y ≤ off)

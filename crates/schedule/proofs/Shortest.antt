@@ -16,7 +16,7 @@ use Rattle.schedule.specs.Theory.Lowest.{Lowest, Narrowed}
 use Rattle.schedule.proofs.Lowest.{lowest-one, lowest-along}
 use Rattle.schedule.proofs.Counting.{count-bound}
 use Rattle.schedule.proofs.Rows.{greatest-bound, greatest-least, greatest-some}
-use Rattle.schedule.proofs.Same.{plan-one}
+use Rattle.schedule.proofs.Readings.{plan-one}
 use Rattle.schedule.proofs.Clock.{clock-valid, clock-meets, end-late, clocked-iff-plan}
 
 module _ (m : ℕ) (J : Jobs) (due : ℕ → ℕ) where

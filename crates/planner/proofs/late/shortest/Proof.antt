@@ -27,10 +27,10 @@ uneven-requires : tie.Need-uneven-requires
 uneven-requires c κs = search needs
 
 returns : tie.Need-returns
-returns c = (omega arith, refused _ _ (inl (c .before .uneven .ensures .yes (c .if1 .taken), refl, refl)) refl)
+returns c = (omega arith, refused _ _ (inl (inl (c .before .uneven .ensures .yes (c .if1 .taken), refl, refl))) refl)
 
 returns-2 : tie.Need-returns-2
-returns-2 c = (omega arith, refused _ _ (inr (shape (c .before), inl (c .if2 .taken, refl, refl))) refl)
+returns-2 c = (omega arith, refused _ _ (inl (inr (shape (c .before), inl (c .if2 .taken, refl, refl)))) refl)
 
 faulty-requires : tie.Need-faulty-requires
 faulty-requires c κs =
@@ -42,7 +42,7 @@ returns-3 : tie.Need-returns-3
 returns-3 c =
     let e = c .before .before .before .before in (
       omega (arith, c .if3 .taken),
-      refused _ _ (inr (shape (e .before), inr ((λ g. omega arith), inl (c .before .before .faulty .ensures .numbers .some (c .if3 .taken))))) refl,
+      refused _ _ (inl (inr (shape (e .before), inr ((λ g. omega arith), c .before .before .faulty .ensures .numbers .some (c .if3 .taken))))) refl,
     )
 
 shorten-requires : tie.Need-shorten-requires
