@@ -17,7 +17,7 @@ use Rattle.verdict.specs.Inner.Gather.{Front, Room, Enters, Fronts}
 use Rattle.verdict.specs.declared.gather.Sizes.{Sizes}
 
 -- ---- what records give
-pub given-last : (part : Record → List ℕ) (done : List Record) (r : Record) → given part (done ++ (r ∷ [])) ≡ given part done ++ part r
+given-last : (part : Record → List ℕ) (done : List Record) (r : Record) → given part (done ++ (r ∷ [])) ≡ given part done ++ part r
 unfolding given
 given-last part [] r = append-nil (part r)
 given-last part (q ∷ done) r = ap (λ l. part q ++ l) (given-last part done r) ∙ sym (append-assoc (part q) (given part done) (part r))

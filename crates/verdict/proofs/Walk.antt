@@ -52,11 +52,10 @@ found-within file at size r f e = let x = finds-record file at r f in (e ∙ len
 pub record Behind (file : List ℕ) (at : ℕ) (done : List Record) : Type 0 where
   pub onward : (rest : List Record) (n v : ℕ) → Contains file at rest n v → Contains file 0 (done ++ rest) n v
   pub back : (records : List Record) (n v : ℕ) → Contains file 0 records n v → (rest : List Record) × (records ≡ done ++ rest) × Contains file at rest n v
-  pub inside : at ≤ length file
   pub few : 6 * length done ≤ at
 
 pub behind-none : (file : List ℕ) → Behind file 0 []
-behind-none file = record { onward = λ rest n v x. x; back = λ records n v x. (records, refl, x); inside = omega arith; few = omega arith }
+behind-none file = record { onward = λ rest n v x. x; back = λ records n v x. (records, refl, x); few = omega arith }
 
 -- a record more
 pub behind-more : (file : List ℕ) (at size : ℕ) (done : List Record) (r : Record) → Behind file at done → Finds file at (found.Record r) → size ≡ length-of r → Behind file (at + size) (done ++ (r ∷ []))
@@ -70,7 +69,6 @@ behind-more file at size done r b f e =
           let before = b .back records n v k in
           let first = contains-first r f (before .2) in
           (first .0, before .1 ∙ ap (λ l. done ++ l) (first .1) ∙ sym (append-assoc done (r ∷ []) (first .0)), subst (λ i. Contains file (at + i) (first .0) n v) (sym e) (first .2));
-      inside = omega arith;
       few = simp length-append (omega (arith, b .few));
     }
 
