@@ -1,4 +1,5 @@
-//! Document 01 a second time, in plain Rust, written from its text alone: no sets in bits, no short ways.
+//! Documents 01 and 02 (A1, A2) a second time, in plain Rust, written from their text alone: no sets in bits, no short
+//! ways.
 //! A book keeps the whole list as told and works out its latest times from nothing after each request.
 
 pub const JOBS: usize = 64;
