@@ -1,6 +1,5 @@
 -- `planner::late::leaves` meets its contract.
 -- Assumes nothing.
-use native.Mathlib.Omega.{arith}
 use borrow.Author.Needs.{needs}
 use Rattle.planner.proofs.Pending.{nothing-ready, nothing-tight}
 use Rattle.planner.proofs.Whether.{whether-no}
