@@ -30,7 +30,7 @@ impl<T: Copy + PartialEq> Lent<T> {
 }
 
 /// A book in lent memory, and the place for a value.
-pub struct Held {
+pub struct LentBook {
     times: Lent<u16>,
     before: Lent<u64>,
     value: Lent<usize>,
@@ -39,10 +39,10 @@ pub struct Held {
 
 const UNSET: usize = 0x5e7_5e7;
 
-impl Held {
+impl LentBook {
     /// Opened in memory that holds anything.
-    pub fn open(guard: usize) -> Held {
-        let mut book = Held {
+    pub fn open(guard: usize) -> LentBook {
+        let mut book = LentBook {
             times: Lent::new(&[0xabcd; 129], 0x1111, guard),
             before: Lent::new(&[!0; 64], 0x3333, guard),
             value: Lent::new(&[UNSET], UNSET, guard),

@@ -1,8 +1,8 @@
 //! Whole lists, and everything that a book can be asked.
-use crate::lent::{self, Held, Lent};
+use crate::lent::{self, Lent, LentBook};
+use crate::printed::{Tally, hold, keyed, requests_of};
 use crate::random::Random;
 use crate::reference::{self, Answer, Book, List};
-use crate::told::{Tally, hold, keyed, requests_of};
 
 /// A random list, judged at once; where it has a plan, its book by requests, its plan, its places and its file.
 pub fn whole_list(random: &mut Random, guard: usize, tally: &mut Tally) {
@@ -68,7 +68,7 @@ fn spoil(random: &mut Random, list: &mut List, pairs: &mut Vec<u16>) {
 
 /// The verdict, the latest times and the plan made, against every layout there is; the two ways to look at a job against
 /// each other.
-fn every_layout(list: &List, made: Option<(Book, Held)>) {
+fn every_layout(list: &List, made: Option<(Book, LentBook)>) {
     let text = || keyed(requests_of(list));
     let accepted = made.is_some();
     let (latest, plan) = made.map_or((vec![], vec![]), |(book, mut held)| (book.latest, slots_made(&mut held, list)));
@@ -88,7 +88,7 @@ fn every_layout(list: &List, made: Option<(Book, Held)>) {
 }
 
 /// The slot of each job in the plan that the planner writes, which has each job once and ends with the last.
-fn slots_made(held: &mut Held, list: &List) -> Vec<u16> {
+fn slots_made(held: &mut LentBook, list: &List) -> Vec<u16> {
     let mut out = Lent::new(&[0; 8192], 0x99, held.guard);
     let finish = held.plan(&mut out).unwrap();
     let plan = &out.row()[..2 * finish];
@@ -104,10 +104,10 @@ fn slot_in(plan: &[u8], job: u8) -> u16 {
 }
 
 /// The list as requests, jobs first, which are all accepted; then everything that the book can be asked. The two books.
-pub fn book_of(random: &mut Random, list: &List, guard: usize, tally: &mut Tally) -> (Book, Held) {
+pub fn book_of(random: &mut Random, list: &List, guard: usize, tally: &mut Tally) -> (Book, LentBook) {
     let requests = requests_of(list);
     let text = || keyed(requests.iter().copied());
-    let mut held = Held::open(guard);
+    let mut held = LentBook::open(guard);
     for (k, &request) in requests.iter().enumerate() {
         let (wanted, got) = (Ok(if k < list.size() { k } else { 0 }), held.apply(request));
         hold(wanted == got, &format!("request {k} of a list that has a plan"), &wanted, &got, &text);
@@ -124,7 +124,7 @@ pub fn book_of(random: &mut Random, list: &List, guard: usize, tally: &mut Tally
 }
 
 /// Plan, places and file of one book, in rows of every length around the one needed; the book stays as it is.
-pub fn asked(random: &mut Random, book: &Book, held: &mut Held, tally: &mut Tally, text: &dyn Fn() -> String) {
+pub fn asked(random: &mut Random, book: &Book, held: &mut LentBook, tally: &mut Tally, text: &dyn Fn() -> String) {
     let needed = 2 * book.slots().len();
     for length in [needed, needed + 1 + random.below(9), needed.saturating_sub(1), random.below(needed + 1)] {
         let filled: Vec<u8> = (0..length).map(|i| i as u8).collect();

@@ -5,15 +5,15 @@
 //! `exact` lends rows without guard cells, for a run under valgrind. A disagreement is printed as keyed text.
 mod lent;
 mod lists;
+mod printed;
 mod random;
 mod reference;
 mod runs;
 mod small;
-mod told;
 
+use printed::Tally;
 use random::Random;
 use std::process::exit;
-use told::Tally;
 
 fn main() {
     let words: Vec<String> = std::env::args().collect();

@@ -1,13 +1,13 @@
 //! Runs of requests, and job files read record by record.
-use crate::lent::Held;
+use crate::lent::LentBook;
 use crate::lists::asked;
+use crate::printed::{Tally, hold, keyed};
 use crate::random::Random;
 use crate::reference::{self, Book, Event, Request};
-use crate::told::{Tally, hold, keyed};
 
 /// Random requests, accepted and refused; both books are compared after each.
 pub fn run(random: &mut Random, guard: usize, tally: &mut Tally) {
-    let (mut book, mut held) = (Book::default(), Held::open(guard));
+    let (mut book, mut held) = (Book::default(), LentBook::open(guard));
     let full = random.one_in(120);
     let horizon = if full { 24 + random.below(16) } else { 2 + random.below(8) };
     let mut told = vec![];
@@ -40,7 +40,7 @@ pub fn file(random: &mut Random, guard: usize, tally: &mut Tally) {
     if random.one_in(300) {
         bytes.resize(reference::FILE - 1 + random.below(4), b'J');
     }
-    let (mut book, mut held) = (Book::default(), Held::open(guard));
+    let (mut book, mut held) = (Book::default(), LentBook::open(guard));
     let mut at = if random.one_in(5) { random.below(bytes.len() + 9) } else { 0 };
     if random.one_in(40) {
         at = usize::MAX - random.below(9);

@@ -1,9 +1,9 @@
 //! What is tried first: the classes, and the small lists of document 01.
 use crate::lent::{self, Lent};
 use crate::lists::{book_of, judge};
+use crate::printed::{Tally, hold, keyed, requests_of};
 use crate::random::Random;
 use crate::reference::{self, List};
-use crate::told::{Tally, hold, keyed, requests_of};
 
 pub fn classes() {
     for number in 0..=255 {

@@ -7,7 +7,7 @@ use native.Mathlib.Omega.{arith}
 use lib.ListN.{getD, replicate}
 use Rattle.schedule.proofs.Book.{holds-nothing}
 use Rattle.sets.proofs.Bits.{empty-has}
-use Rattle.book.specs.Told.{Book, part, held, Told, nothing-listed}
+use Rattle.book.specs.Told.{Book, part, book-in, Told, nothing-listed}
 
 pub zeros : (n i : ℕ) → _≡_ {A = ℕ} (getD (replicate n 0) i 0) 0
 zeros zero i = refl
@@ -29,6 +29,6 @@ nothing = record {
   holds = holds-nothing 2 _ _ refl;
 }
 
-pub told-nothing : Told (held (replicate 129 0) (replicate 64 0)) nothing-listed
+pub told-nothing : Told (book-in (replicate 129 0) (replicate 64 0)) nothing-listed
 unfolding part
 told-nothing = nothing

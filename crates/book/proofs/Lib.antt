@@ -3,6 +3,6 @@
 -- the parts of a row
 pub mod Parts
 -- a list has one book
-pub mod Same
+pub mod OneBook
 -- the empty book
 pub mod Empty

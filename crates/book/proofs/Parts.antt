@@ -8,7 +8,7 @@ use native.Mathlib.Omega.{arith}
 use lib.ListN.{length, getD, take, drop, set, length-take, length-drop}
 use lib.Seq.{take-set-lt, take-set-le, drop-set-add, drop-set-lt, getD-take, getD-drop, getD-set-same, getD-set-other, ext-getD}
 use Rattle.schedule.proofs.Tests.{le-or-lt}
-use Rattle.book.specs.Told.{Book, part, held, Shaped}
+use Rattle.book.specs.Told.{Book, part, book-in, Shaped}
 
 module _ (from : ℕ) (row : List ℕ) where
   pub part-length : from + 64 ≤ length row → length (part from row) ≡ 64
@@ -32,9 +32,9 @@ module _ (from : ℕ) (row : List ℕ) where
       ap (λ (k : ℕ). take 64 (drop from (set row k v))) e ∙ ap (take 64) (drop-set-add from row (i - from) v) ∙ take-set-le 64 (drop from row) (i - from) v (omega arith)
 
 -- a book's rows are whole
-pub held-long : (times before : List ℕ) → Shaped (held times before) → 129 ≤ length times
+pub book-in-long : (times before : List ℕ) → Shaped (book-in times before) → 129 ≤ length times
 unfolding part
-held-long times before s = let e = simp (length-take, length-drop) at (s .latests) in omega arith
+book-in-long times before s = let e = simp (length-take, length-drop) at (s .latests) in omega arith
 
 -- ---- one law for each field that changes
 abbrev pub with-size : Book → ℕ → Book
@@ -47,18 +47,18 @@ abbrev pub with-latest : Book → List ℕ → Book
 with-latest k latest = record { size = k .size; start = k .start; latest = latest; before = k .before }
 
 module _ (times before : List ℕ) (long : 129 ≤ length times) where
-  pub held-size : (n : ℕ) → held (set times 0 n) before ≡ with-size (held times before) n
-  held-size n = λ i. record { size = getD-set-same times 0 n 0 (omega (arith, long)) i; start = part-out 1 times 0 n (inl (omega arith)) i; latest = part-out 65 times 0 n (inl (omega arith)) i; before = before }
+  pub book-in-size : (n : ℕ) → book-in (set times 0 n) before ≡ with-size (book-in times before) n
+  book-in-size n = λ i. record { size = getD-set-same times 0 n 0 (omega (arith, long)) i; start = part-out 1 times 0 n (inl (omega arith)) i; latest = part-out 65 times 0 n (inl (omega arith)) i; before = before }
 
-  pub held-start : (j v : ℕ) → j < 64 → held (set times (1 + j) v) before ≡ with-start (held times before) (set (part 1 times) j v)
-  held-start j v h = λ i. record { size = getD-set-other times (1 + j) 0 v 0 (λ e. omega arith) i; start = part-in 1 times j v h i; latest = part-out 65 times (1 + j) v (inl (omega arith)) i; before = before }
+  pub book-in-start : (j v : ℕ) → j < 64 → book-in (set times (1 + j) v) before ≡ with-start (book-in times before) (set (part 1 times) j v)
+  book-in-start j v h = λ i. record { size = getD-set-other times (1 + j) 0 v 0 (λ e. omega arith) i; start = part-in 1 times j v h i; latest = part-out 65 times (1 + j) v (inl (omega arith)) i; before = before }
 
-  pub held-late : (j v : ℕ) → j < 64 → held (set times (65 + j) v) before ≡ with-latest (held times before) (set (part 65 times) j v)
-  held-late j v h = λ i. record { size = getD-set-other times (65 + j) 0 v 0 (λ e. omega arith) i; start = part-out 1 times (65 + j) v (inr (omega arith)) i; latest = part-in 65 times j v h i; before = before }
+  pub book-in-late : (j v : ℕ) → j < 64 → book-in (set times (65 + j) v) before ≡ with-latest (book-in times before) (set (part 65 times) j v)
+  book-in-late j v h = λ i. record { size = getD-set-other times (65 + j) 0 v 0 (λ e. omega arith) i; start = part-out 1 times (65 + j) v (inr (omega arith)) i; latest = part-in 65 times j v h i; before = before }
 
 -- ---- a book lies in one way
-pub held-one : (times row before sets : List ℕ) → length times ≡ 129 → length row ≡ 129 → held times before ≡ held row sets → (times ≡ row) × (before ≡ sets)
-held-one times row before sets l m e = (ext-getD 0 times row (l ∙ sym m) (λ i h. at i (omega (arith, l)) (le-or-lt 1 i) (le-or-lt 65 i)), ap (λ (k : Book). k .before) e)
+pub book-in-one : (times row before sets : List ℕ) → length times ≡ 129 → length row ≡ 129 → book-in times before ≡ book-in row sets → (times ≡ row) × (before ≡ sets)
+book-in-one times row before sets l m e = (ext-getD 0 times row (l ∙ sym m) (λ i h. at i (omega (arith, l)) (le-or-lt 1 i) (le-or-lt 65 i)), ap (λ (k : Book). k .before) e)
   where
     entry : (from i : ℕ) → part from times ≡ part from row → from ≤ i → i < from + 64 → getD times i 0 ≡ getD row i 0
     entry from i p a b =

@@ -26,8 +26,8 @@ unfoldable pub part : ℕ → List ℕ → List ℕ
 part from row = take 64 (drop from row)
 
 -- the book in lent memory: a row of its size, 64 starts and 64 latest times, and 64 sets
-abbrev pub held : List ℕ → List ℕ → Book
-held times before = record { size = getD times 0 0; start = part 1 times; latest = part 65 times; before = before }
+abbrev pub book-in : List ℕ → List ℕ → Book
+book-in times before = record { size = getD times 0 0; start = part 1 times; latest = part 65 times; before = before }
 
 -- the jobs that rows spell: a precedes b where a is in set b (01, Requests on a book: "starts .. and which job precedes which")
 abbrev pub jobs-in : ℕ → List ℕ → List ℕ → Jobs
@@ -59,7 +59,7 @@ pub record Limited (L : Listed) : Type 0 where
   pub start : (i : ℕ) → i < length (L .starts) → getD (L .starts) i 0 ≤ 4095
   pub deadline : (i : ℕ) → i < length (L .starts) → written L i ≤ 4096
 
--- the book holds the list L (01, Requests on a book)
+-- a book's fields are what the definition gives for the list L, `Holds` (01, Requests on a book)
 pub record Told (k : Book) (L : Listed) : Type 0 where
   pub shaped : Shaped k
   pub limited : Limited L

@@ -2,7 +2,7 @@
 ghost use mathlib.Core.Path.{_≡_};
 ghost use Prim.Native.Nat.{_+_, _≤_};
 ghost use lib.ListN.{length};
-ghost use Rattle.book.specs.Told.{Told, part, held, nothing-listed};
+ghost use Rattle.book.specs.Told.{Told, part, book-in, nothing-listed};
 
 // Two equal cores.
 pub const CORES: usize = 2;
@@ -15,7 +15,7 @@ pub type Before = [u64; 64];
 
 // An empty book, whatever the memory held.
 pub fn open(times: &mut Times, before: &mut Before)
-    ensures { λ _. ⌜ Told (held (now (times .exit)) (now (before .exit))) nothing-listed ⌝ }
+    ensures { λ _. ⌜ Told (book-in (now (times .exit)) (now (before .exit))) nothing-listed ⌝ }
 {
     *times = [0u16; 129];
     *before = [0u64; 64];

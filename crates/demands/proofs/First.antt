@@ -22,7 +22,7 @@ use Rattle.plan.specs.Place.{Places}
 use Rattle.records.specs.declared.Record.{Record}
 use Rattle.records.specs.Record.{length-of, Stands}
 use Rattle.records.specs.Find.{find-checks}
-use Rattle.jobfile.specs.Reader.{Step, asks, Stays, Answers, ReadsRecord}
+use Rattle.jobfile.specs.Reader.{AfterRead, asks, Stays, Answers, ReadsRecord}
 use Rattle.jobfile.specs.Writer.{file-of, Output, output, WritesBook}
 use Rattle.firmware.specs.Plans.{FindsPlace}
 use Rattle.demands.specs.Demands.{Numbered, Demand1}
@@ -58,23 +58,23 @@ place k job n values (refused c w x e) h = let number : n ≡ 5 = ap (λ r. r .0
 place k job n values (passed x e) h = absurd (omega (arith, ap (λ r. r .0) e))
 
 place-lent : (k : Book) (job n : ℕ) (old new : List ℕ) → FindsPlace k job old new n → 1 ≤ n → Numbered n × (new ≡ old)
-place-lent k job n old new x h = (place k job n (x .values) (x .places) h, x .told ∙ simp (ne-eqb n 0 (λ e. omega arith)))
+place-lent k job n old new x h = (place k job n (x .values) (x .places) h, x .lent ∙ simp (ne-eqb n 0 (λ e. omega arith)))
 
 -- the numbers of a read's own checks: 9, the end, 11, 10
 stopped : (file : List ℕ) (at : ℕ) → Each (λ n. (n ≡ 255 → ⊥) → Numbered n) (find-checks file at)
 stopped file at = ((λ f. (omega arith, omega arith)), ((λ f. absurd (f refl)), ((λ f. (omega arith, omega arith)), λ f. (omega arith, omega arith))))
 
-record-read : (k : Book) (file : List ℕ) (at : ℕ) (r : Step) → Made k → ReadsRecord k file at r → 1 ≤ r .number → (r .number ≡ 255 → ⊥) →
+record-read : (k : Book) (file : List ℕ) (at : ℕ) (r : AfterRead) → Made k → ReadsRecord k file at r → 1 ≤ r .number → (r .number ≡ 255 → ⊥) →
     Numbered (r .number) × (r .book ≡ k) × ((r .at ≡ at) ⊎ ((told : Record) × Stands file at told × (r .at ≡ at + length-of told)))
 record-read k file at r m x h some = go (x .outcome)
   where
     go : Table (find-checks file at) (Stays k at) (Answers k file at) r → Numbered (r .number) × (r .book ≡ k) × ((r .at ≡ at) ⊎ ((told : Record) × Stands file at told × (r .at ≡ at + length-of told)))
     go (refused n v y e) = (
-      subst Numbered (sym (ap (λ (s : Step). s .number) e)) (refuses-each (λ n. (n ≡ 255 → ⊥) → Numbered n) (find-checks file at) n v (stopped file at) y (λ f. some (ap (λ (s : Step). s .number) e ∙ f))),
-      ap (λ (s : Step). s .book) e,
-      inl (ap (λ (s : Step). s .at) e),
+      subst Numbered (sym (ap (λ (s : AfterRead). s .number) e)) (refuses-each (λ n. (n ≡ 255 → ⊥) → Numbered n) (find-checks file at) n v (stopped file at) y (λ f. some (ap (λ (s : AfterRead). s .number) e ∙ f))),
+      ap (λ (s : AfterRead). s .book) e,
+      inl (ap (λ (s : AfterRead). s .at) e),
     )
-    go (passed y a) = let z = request k (asks (a .told)) (answered (r .book) (r .number) (r .value)) m (a .applies) h in (z .0, z .1, inr (a .told, a .stands, a .moved))
+    go (passed y a) = let z = request k (asks (a .stood)) (answered (r .book) (r .number) (r .value)) m (a .applies) h in (z .0, z .1, inr (a .stood, a .stands, a .moved))
 
 written : (k : Book) (old new : List ℕ) (n v : ℕ) → WritesBook k old new n v → 1 ≤ n → Numbered n × (new ≡ old)
 written k old new n v x h = go (x .outcome)

@@ -17,7 +17,7 @@ use Rattle.schedule.specs.Listed.{Listed, Looped, Formed, written}
 use Rattle.schedule.proofs.Tests.{le-or-lt, says-le, says-lt, says-eq, says-not, says-and, says-or}
 use Rattle.schedule.proofs.Choice.{says-all}
 use Rattle.schedule.proofs.Loop.{bytes-length}
-use Rattle.schedule.proofs.Same.{holds-one, plan-one, finish-one, bytes-one}
+use Rattle.schedule.proofs.Readings.{holds-one, plan-one, finish-one, bytes-one}
 use Rattle.schedule.proofs.Onward.{holds-planned}
 use Rattle.schedule.proofs.Certify.{entry}
 use Rattle.schedule.proofs.Certify as certify
@@ -83,7 +83,7 @@ received times old new room e front rest =
 accepts : {starts deadlines pairs times : List ℕ} → T (tame starts deadlines pairs) → length times ≡ length starts → theory.Accepted (list-of starts deadlines pairs) times →
     Accepts starts deadlines pairs times
 accepts {starts} {deadlines} {pairs} {times} t e a = record {
-  told = λ old r room j.
+  answer = λ old r room j.
       let f : Fitted L old r =
       table-free _ _ _ _ (λ no. no (holds-planned 2 (omega arith) (omega arith) L (a .jobs) (entry times) (a .holds)))
       (last starts deadlines pairs t (a .holds .formed) (a .holds .loopless) old r room j) in
@@ -97,7 +97,7 @@ accepts {starts} {deadlines} {pairs} {times} t e a = record {
 
 refuses : {starts deadlines pairs : List ℕ} → T (tame starts deadlines pairs) → certify.Refused (list-of starts deadlines pairs) → Refuses starts deadlines pairs 4 0
 refuses {starts} {deadlines} {pairs} t x = record {
-  told = λ old r room j.
+  answer = λ old r room j.
       table-caught _ _ _ _ 4 0 ((λ p. x .none (plan-one 2 L (p .0) (x .jobs) (written L) (p .1) (x .reads) (p .2))), refl, refl)
       (last starts deadlines pairs t (x .formed) (x .loopless) old r room j);
 }
@@ -115,10 +115,10 @@ module _ (L : Listed) (times plan : List ℕ) (n : ℕ) (low : T (all (length (L
   finished =
       let f : ℕ = finish (a .jobs) (slots 2 (a .jobs) (entry times) 9 9) in
       let same : f ≡ finish-of k = finish-one L (a .jobs) (jobs-of k) (entry times) (latest-of k) (a .holds) (told .holds) 9 9 4096 4096 top (omega arith) (omega arith) (omega arith) in
-      omega (arith, bytes-length (a .jobs) (entry times) 9 f, ap length (a .made))
+      omega (arith, bytes-length (a .jobs) (entry times) 9 f, ap length (a .plan-is))
 
   spelled : bytes-of k ≡ plan
-  spelled = sym (bytes-one L (a .jobs) (jobs-of k) (entry times) (latest-of k) (a .holds) (told .holds) 9 9 4096 4096 top (omega arith) (omega arith) (omega arith)) ∙ a .made
+  spelled = sym (bytes-one L (a .jobs) (jobs-of k) (entry times) (latest-of k) (a .holds) (told .holds) 9 9 4096 4096 top (omega arith) (omega arith) (omega arith)) ∙ a .plan-is
 
   laid : (old new : List ℕ) (number value : ℕ) → 2 * n ≤ length old → Plans k old new number value → (number ≡ 0) × (value ≡ n) × (new ≡ plan ++ drop (2 * n) old)
   laid old new number value room (checks.refused c v f e) = absurd (omega (arith, finished, f .0))
@@ -137,7 +137,7 @@ lays {starts} {deadlines} {pairs} {times} {plan} {n} t e low size a =
 looped : Refuses (0 ∷ 0 ∷ []) (1 ∷ 2 ∷ []) (0 ∷ 1 ∷ 1 ∷ 0 ∷ []) 6 1
 unfolding pairs-of tame
 looped = record {
-  told = λ old r room j.
+  answer = λ old r room j.
       go old r (loops-last starts deadlines pairs old r (shaped starts deadlines pairs tt refl old room) j (alone .few) (alone .jobs) held);
 }
   where

@@ -14,7 +14,7 @@ use Rattle.schedule.specs.Times.{Beneath}
 use Rattle.schedule.specs.Make.{slots, bytes}
 use Rattle.schedule.specs.Listed.{Listed}
 use Rattle.schedule.specs.Book.{Holds}
-use Rattle.schedule.proofs.Same.{finish-one, bytes-one}
+use Rattle.schedule.proofs.Readings.{finish-one, bytes-one}
 use Rattle.refusal.specs.Table.{refused, passed}
 use Rattle.refusal.proofs.Table.{table-caught, table-free}
 use Rattle.book.specs.Told.{Book, jobs-of, latest-of, Told}
@@ -98,7 +98,7 @@ list-accepted starts deadlines pairs old r j sound plan =
 
 pub demand-3 : Demand3
 demand-3 = record {
-  held = run-told;
+  told = run-told;
   at-once = at-once;
   in-rows = λ L k run. (flat (L .orders), in-rows L, flat-length (L .orders));
   plan = λ L k J times old new told run h. defined L k (run-told L k run) J times h old new told;

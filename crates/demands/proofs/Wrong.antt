@@ -13,7 +13,7 @@ use Rattle.schedule.specs.Listed.{Listed, Reads, ordered, written, with-job}
 use Rattle.schedule.proofs.Counting.{count-bound}
 use Rattle.schedule.proofs.Chains.{jobs, jobs-reads}
 use Rattle.refusal.proofs.Table.{table-caught}
-use Rattle.book.specs.Told.{Book, held, Told}
+use Rattle.book.specs.Told.{Book, book-in, Told}
 use Rattle.book.proofs.Empty.{told-nothing}
 use Rattle.planner.specs.declared.requests.Request.{Request}
 use Rattle.planner.specs.declared.requests.Request.the-variants.{Job}
@@ -60,7 +60,7 @@ ones-plannable n few = (jobs (ones n), reads, ((λ i. 0), valid, record { ends =
     }
 
 abbrev empty : Book
-empty = held (replicate 129 0) (replicate 64 0)
+empty = book-in (replicate 129 0) (replicate 64 0)
 
 -- one job more
 one-more : (n : ℕ) → with-job (ones n) 0 1 ≡ ones (suc n)

@@ -23,7 +23,7 @@ use Rattle.plan.specs.Plan.{horizon, unplaced, Plans}
 use Rattle.plan.specs.Place.{Places}
 use Rattle.records.specs.declared.Record.{Record}
 use Rattle.records.specs.Record.{length-of, Stands}
-use Rattle.jobfile.specs.Reader.{Step, ReadsRecord}
+use Rattle.jobfile.specs.Reader.{AfterRead, ReadsRecord}
 use Rattle.jobfile.specs.Writer.{WritesBook}
 use Rattle.jobfile.specs.RoundTrip.{ReadsBack}
 use Rattle.firmware.specs.Plans.{FindsPlace}
@@ -41,7 +41,7 @@ pub record Demand1 : Type 0 where
   -- the calls for firmware promise these same relations of lent memory, in numbers; a place goes into four lent numbers, and a refusal leaves them
   pub place-lent : (k : Book) (job n : ℕ) (old new : List ℕ) → FindsPlace k job old new n → 1 ≤ n → Numbered n × (new ≡ old)
   -- one record read: a refused request moves the offset past its record, a stop leaves it; 255 is the end of the file and no refusal
-  pub record-read : (k : Book) (file : List ℕ) (at : ℕ) (r : Step) → Made k → ReadsRecord k file at r → 1 ≤ r .number → (r .number ≡ 255 → ⊥) →
+  pub record-read : (k : Book) (file : List ℕ) (at : ℕ) (r : AfterRead) → Made k → ReadsRecord k file at r → 1 ≤ r .number → (r .number ≡ 255 → ⊥) →
       Numbered (r .number) × (r .book ≡ k) × ((r .at ≡ at) ⊎ ((told : Record) × Stands file at told × (r .at ≡ at + length-of told)))
   pub written : (k : Book) (old new : List ℕ) (n v : ℕ) → WritesBook k old new n v → 1 ≤ n → Numbered n × (new ≡ old)
 
@@ -76,7 +76,7 @@ pub record Demand2 : Type 1 where
 -- ---- 3. "Take any run of new jobs, new orders and earlier deadlines on a book that began empty, and strike out the refused ones": `Run L k`, where L is the remaining list
 pub record Demand3 : Type 0 where
   -- "The tightened deadlines .. are then exactly those that the definition gives for the remaining list"
-  pub held : (L : Listed) (k : Book) → Run L k → Told k L
+  pub told : (L : Listed) (k : Book) → Run L k → Told k L
   -- "handed in at once": in whatever rows, it is accepted unless their form is bad, and the receiving row gets the book's latest times
   pub at-once : (starts deadlines pairs old : List ℕ) (k : Book) (r : Judged) → Run (list-of starts deadlines pairs) k → (Misshapen starts deadlines pairs old → ⊥) →
       Judges starts deadlines pairs old r → (r .number ≡ 0) × ((i : ℕ) → i < k .size → getD (r .row) i 0 ≡ latest-of k i)

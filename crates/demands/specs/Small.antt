@@ -11,11 +11,11 @@ use Rattle.plan.specs.Plan.{Plans}
 -- ---- what a row of the table says of the calls
 -- judge accepts the list, and a row long enough receives these latest times
 pub record Accepts (starts deadlines pairs times : List ℕ) : Type 0 where
-  pub told : (old : List ℕ) (r : Judged) → length starts ≤ length old → Judges starts deadlines pairs old r → r ≡ judged (times ++ drop (length starts) old) 0 0
+  pub answer : (old : List ℕ) (r : Judged) → length starts ≤ length old → Judges starts deadlines pairs old r → r ≡ judged (times ++ drop (length starts) old) 0 0
 
 -- judge refuses the list by this number and place, and leaves the row
 pub record Refuses (starts deadlines pairs : List ℕ) (number place : ℕ) : Type 0 where
-  pub told : (old : List ℕ) (r : Judged) → length starts ≤ length old → Judges starts deadlines pairs old r → r ≡ judged old number place
+  pub answer : (old : List ℕ) (r : Judged) → length starts ≤ length old → Judges starts deadlines pairs old r → r ≡ judged old number place
 
 -- accepted, and a book that holds the list has this plan, in so many slots
 pub record Lays (starts deadlines pairs times : List ℕ) (slots : ℕ) (plan : List ℕ) : Type 0 where

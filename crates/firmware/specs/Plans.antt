@@ -12,4 +12,4 @@ use Rattle.plan.specs.Place.{Places}
 pub record FindsPlace (k : Book) (job : ℕ) (old new : List ℕ) (number : ℕ) : Type 0 where
   pub values : List ℕ
   pub places : Places k job number values
-  pub told : new ≡ cond (eqb number 0) values old
+  pub lent : new ≡ cond (eqb number 0) values old

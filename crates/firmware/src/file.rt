@@ -3,8 +3,8 @@ use book::Before;
 use book::Times;
 use jobfile::Event;
 ghost use mathlib.Core.Path.{_≡_};
-ghost use Rattle.book.specs.Told.{Made, held};
-ghost use Rattle.jobfile.specs.Reader.{ReadsRecord, step, event-number, event-value};
+ghost use Rattle.book.specs.Told.{Made, book-in};
+ghost use Rattle.jobfile.specs.Reader.{ReadsRecord, after-read, event-number, event-value};
 ghost use Rattle.jobfile.specs.Writer.{WritesBook};
 
 #[no_mangle]
@@ -15,8 +15,8 @@ pub extern "C" fn firmware_read(
     at: &mut usize,
     answer: &mut usize,
 ) -> u8
-    requires { ⌜ Made (held (now times) (now before)) ⌝ }
-    ensures { λ r. ⌜ ReadsRecord (held (now (times .entry)) (now (before .entry))) (now (file .entry)) (now (at .entry)) (step (held (now (times .exit)) (now (before .exit))) (now (at .exit)) r (now (answer .exit))) ⌝ }
+    requires { ⌜ Made (book-in (now times) (now before)) ⌝ }
+    ensures { λ r. ⌜ ReadsRecord (book-in (now (times .entry)) (now (before .entry))) (now (file .entry)) (now (at .entry)) (after-read (book-in (now (times .exit)) (now (before .exit))) (now (at .exit)) r (now (answer .exit))) ⌝ }
 {
     let event = jobfile::read(times, before, file, at);
     *answer = value(event);
@@ -30,8 +30,8 @@ pub extern "C" fn firmware_write(
     out: &mut [u8],
     answer: &mut usize,
 ) -> u8
-    requires { ⌜ Made (held (now times) (now before)) ⌝ }
-    ensures { λ r. ⌜ WritesBook (held (now (times .entry)) (now (before .entry))) (now (out .entry)) (now (out .exit)) r (now (answer .exit)) ⌝ }
+    requires { ⌜ Made (book-in (now times) (now before)) ⌝ }
+    ensures { λ r. ⌜ WritesBook (book-in (now (times .entry)) (now (before .entry))) (now (out .entry)) (now (out .exit)) r (now (answer .exit)) ⌝ }
 {
     let told = jobfile::write(times, before, out);
     *answer = refusal::value(told);

@@ -4,7 +4,7 @@ use book::Times;
 use plan::Placed;
 use schedule::JobIndex;
 ghost use mathlib.Core.List.{[], _∷_};
-ghost use Rattle.book.specs.Told.{Made, held};
+ghost use Rattle.book.specs.Told.{Made, book-in};
 ghost use Rattle.plan.specs.Plan.{Plans};
 ghost use Rattle.firmware.specs.Plans.{FindsPlace};
 
@@ -15,8 +15,8 @@ pub extern "C" fn firmware_plan(
     out: &mut [u8],
     answer: &mut usize,
 ) -> u8
-    requires { ⌜ Made (held (now times) (now before)) ⌝ }
-    ensures { λ r. ⌜ Plans (held (now (times .entry)) (now (before .entry))) (now (out .entry)) (now (out .exit)) r (now (answer .exit)) ⌝ }
+    requires { ⌜ Made (book-in (now times) (now before)) ⌝ }
+    ensures { λ r. ⌜ Plans (book-in (now (times .entry)) (now (before .entry))) (now (out .entry)) (now (out .exit)) r (now (answer .exit)) ⌝ }
 {
     let told = plan::plan(times, before, out);
     *answer = refusal::value(told);
@@ -33,8 +33,8 @@ pub extern "C" fn firmware_place(
     end: &mut usize,
     spare: &mut usize,
 ) -> u8
-    requires { ⌜ Made (held (now times) (now before)) ⌝ }
-    ensures { λ r. ⌜ FindsPlace (held (now (times .entry)) (now (before .entry))) job (now (slot .entry) ∷ now (core .entry) ∷ now (end .entry) ∷ now (spare .entry) ∷ []) (now (slot .exit) ∷ now (core .exit) ∷ now (end .exit) ∷ now (spare .exit) ∷ []) r ⌝ }
+    requires { ⌜ Made (book-in (now times) (now before)) ⌝ }
+    ensures { λ r. ⌜ FindsPlace (book-in (now (times .entry)) (now (before .entry))) job (now (slot .entry) ∷ now (core .entry) ∷ now (end .entry) ∷ now (spare .entry) ∷ []) (now (slot .exit) ∷ now (core .exit) ∷ now (end .exit) ∷ now (spare .exit) ∷ []) r ⌝ }
 {
     let placed = plan::place(times, before, JobIndex(job as usize));
     match placed {

@@ -11,7 +11,7 @@ use Rattle.schedule.specs.Jobs.{Closed}
 use Rattle.schedule.specs.Listed.{Listed, ordered, Chain, link, join, written, with-job, with-order}
 use Rattle.schedule.proofs.Rows.{put-all}
 use Rattle.schedule.proofs.Chains.{reads-closed, reads-loopless, ordered-append, getD-put}
-use Rattle.schedule.proofs.Made.{row-has-plan}
+use Rattle.schedule.proofs.Greedy.{row-has-plan}
 use Rattle.book.specs.Told.{Book, jobs-of, latest-of, Told, nothing-listed}
 use Rattle.refusal.specs.Table.{Clear}
 use Rattle.refusal.proofs.Table.{table-free}

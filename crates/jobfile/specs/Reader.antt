@@ -19,14 +19,14 @@ use Rattle.jobfile.specs.declared.reader.Event.{Event}
 use Rattle.jobfile.specs.declared.reader.Event.the-variants as event
 
 -- the book and the offset after a read, and its number and value; the end has no number in 01: it takes 255, which no refusal has
-pub record Step : Type 0 where
+pub record AfterRead : Type 0 where
   pub book : Book
   pub at : ℕ
   pub number : ℕ
   pub value : ℕ
 
-abbrev pub step : Book → ℕ → ℕ → ℕ → Step
-step k at number value = record { book = k; at = at; number = number; value = value }
+abbrev pub after-read : Book → ℕ → ℕ → ℕ → AfterRead
+after-read k at number value = record { book = k; at = at; number = number; value = value }
 
 -- "9, 10 and 11 stop"
 abbrev pub stops : ℕ → Bool
@@ -60,17 +60,17 @@ asks (Order first second) = request.Before (record { 0 = first }) (record { 0 = 
 asks (Deadline job deadline) = request.Earlier (record { 0 = job }) deadline
 
 -- "At the end and at a stop the offset and the book stay"
-abbrev pub Stays : Book → ℕ → ℕ → ℕ → Step → Type 0
-Stays k at number value r = r ≡ step k at number value
+abbrev pub Stays : Book → ℕ → ℕ → ℕ → AfterRead → Type 0
+Stays k at number value r = r ≡ after-read k at number value
 
 -- the record that stands at the offset is answered as the planner promises, and passed, "refused or not" (01, Job file: "A refused request still moves the offset by six")
-pub record Answers (k : Book) (file : List ℕ) (at : ℕ) (r : Step) : Type 0 where
-  pub told : Record
-  pub stands : Stands file at told
-  pub moved : r .at ≡ at + length-of told
-  pub applies : Applies k (asks told) (answered (r .book) (r .number) (r .value))
+pub record Answers (k : Book) (file : List ℕ) (at : ℕ) (r : AfterRead) : Type 0 where
+  pub stood : Record
+  pub stands : Stands file at stood
+  pub moved : r .at ≡ at + length-of stood
+  pub applies : Applies k (asks stood) (answered (r .book) (r .number) (r .value))
 
 -- what read promises: "9; end if the offset equals the length; 11; 10; then the request's own refusals"; `made` follows from the rest, and serves the next call
-pub record ReadsRecord (k : Book) (file : List ℕ) (at : ℕ) (r : Step) : Type 0 where
+pub record ReadsRecord (k : Book) (file : List ℕ) (at : ℕ) (r : AfterRead) : Type 0 where
   pub outcome : Table (find-checks file at) (Stays k at) (Answers k file at) r
   pub made : Made (r .book)

@@ -3,8 +3,8 @@ use crate::reader;
 use crate::reader::Event;
 use book::Before;
 use book::Times;
-ghost use Rattle.book.specs.Told.{Made, held};
-ghost use Rattle.jobfile.specs.Reader.{Tells, step};
+ghost use Rattle.book.specs.Told.{Made, book-in};
+ghost use Rattle.jobfile.specs.Reader.{Tells, after-read};
 ghost use Rattle.jobfile.specs.File.{ReadsFile};
 
 // How many records were read, how far, and why it ended there.
@@ -21,8 +21,8 @@ pub fn read_file(
     file: &[u8],
     answers: &mut [u8; 4096],
 ) -> Ended
-    requires { ⌜ Made (held (now times) (now before)) ⌝ }
-    ensures { λ r. ⌜ Tells (r .event) (λ n v. ReadsFile (held (now (times .entry)) (now (before .entry))) (now (file .entry)) (now (answers .entry)) (now (answers .exit)) (r .records) (step (held (now (times .exit)) (now (before .exit))) (r .at) n v)) ⌝ }
+    requires { ⌜ Made (book-in (now times) (now before)) ⌝ }
+    ensures { λ r. ⌜ Tells (r .event) (λ n v. ReadsFile (book-in (now (times .entry)) (now (before .entry))) (now (file .entry)) (now (answers .entry)) (now (answers .exit)) (r .records) (after-read (book-in (now (times .exit)) (now (before .exit))) (r .at) n v)) ⌝ }
 {
     let mut at: usize = 0;
     let mut records: usize = 0;

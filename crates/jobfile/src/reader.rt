@@ -7,8 +7,8 @@ use records::Record;
 use refusal::Answer;
 use schedule::JobIndex;
 ghost use mathlib.Core.Path.{_≡_};
-ghost use Rattle.book.specs.Told.{Made, held};
-ghost use Rattle.jobfile.specs.Reader.{Tells, ReadsRecord, step, asks};
+ghost use Rattle.book.specs.Told.{Made, book-in};
+ghost use Rattle.jobfile.specs.Reader.{Tells, ReadsRecord, after-read, asks};
 
 pub enum Event {
     Request(Answer),
@@ -19,8 +19,8 @@ pub enum Event {
 
 // The request is answered, refused or not, and the offset moves on; at the end and at a stop the book and the offset stay.
 pub fn read(times: &mut Times, before: &mut Before, file: &[u8], at: &mut usize) -> Event
-    requires { ⌜ Made (held (now times) (now before)) ⌝ }
-    ensures { λ r. ⌜ Tells r (λ n v. ReadsRecord (held (now (times .entry)) (now (before .entry))) (now (file .entry)) (now (at .entry)) (step (held (now (times .exit)) (now (before .exit))) (now (at .exit)) n v)) ⌝ }
+    requires { ⌜ Made (book-in (now times) (now before)) ⌝ }
+    ensures { λ r. ⌜ Tells r (λ n v. ReadsRecord (book-in (now (times .entry)) (now (before .entry))) (now (file .entry)) (now (at .entry)) (after-read (book-in (now (times .exit)) (now (before .exit))) (now (at .exit)) n v)) ⌝ }
 {
     let offset = *at;
     let found = records::record_at(file, offset);

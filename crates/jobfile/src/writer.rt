@@ -10,14 +10,14 @@ ghost use lib.ListN.{length};
 ghost use lib.Seq.{sets};
 ghost use Rattle.refusal.specs.Says.{Says};
 ghost use Rattle.records.specs.Record.{bytes-of, length-of};
-ghost use Rattle.book.specs.Told.{Made, held};
+ghost use Rattle.book.specs.Told.{Made, book-in};
 ghost use Rattle.jobfile.specs.Writer.{gather, bytes-of-all, job-record, follower-records, WritesBook};
 ghost use Rattle.jobfile.specs.Inner.Writer.{pairs-in, Continues};
 
 // `JB` for each job, then `OR` for every pair where one precedes the other; nothing where the bytes are too few. 12,480 are always enough.
 pub fn write(times: &Times, before: &Before, out: &mut [u8]) -> Answer
-    requires { ⌜ Made (held (now times) (now before)) ⌝ }
-    ensures { λ r. ⌜ Says r (λ n v. WritesBook (held (now (times .entry)) (now (before .entry))) (now (out .entry)) (now (out .exit)) n v) ⌝ }
+    requires { ⌜ Made (book-in (now times) (now before)) ⌝ }
+    ensures { λ r. ⌜ Says r (λ n v. WritesBook (book-in (now (times .entry)) (now (before .entry))) (now (out .entry)) (now (out .exit)) n v) ⌝ }
 {
     let size = wide(times[0]);
     let needed = 6 * (size + pairs(size, before));

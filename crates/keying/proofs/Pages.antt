@@ -20,34 +20,34 @@ use Rattle.records.specs.declared.Record.the-variants.{Job, Order, Deadline}
 use Rattle.records.specs.declared.Found.the-variants as found
 use Rattle.records.specs.Record.{length-of}
 use Rattle.records.specs.Find.{find-checks, Finds}
-use Rattle.records.proofs.Standing.{first-of, second-of, length-six, stands-one, stands-within, stands-fields}
+use Rattle.records.proofs.Standing.{first-field, second-field, length-six, stands-one, stands-within, stands-fields}
 use Rattle.records.proofs.Finding.{stands-clear, finds-record, finds-stop}
 use Rattle.records.proofs.Stored.{sets-append}
 use Rattle.text.specs.Put.{Puts}
 use Rattle.text.proofs.Decimal.{decimal-short}
 use Rattle.text.proofs.Putting.{puts-stored}
-use Rattle.keying.specs.Lines.{line-of, Told, stops, shows, Lines}
+use Rattle.keying.specs.Lines.{line-of, Printed, stops, shows, Lines}
 use Rattle.keying.specs.Inner.Walk.{Prints}
 use Rattle.keying.proofs.Walk.{stored-none, stored-length}
 
 -- ---- one outcome
-pub told-one : {file : List ℕ} {at n v m w : ℕ} {s t : List ℕ} → Told file at s n v → Told file at t m w → (s ≡ t) × (n ≡ m) × (v ≡ w)
-told-one {file} {at} {n} {v} {m} {w} (stops x) (stops y) = let same = refuses-one (find-checks file at) n v m w x y in (refl, same .0, same .1)
-told-one {file} {at} {n} {v} (stops x) (shows r c z k) = absurd (refuses-not-clear (find-checks file at) n v x c)
-told-one {file} {at} {n} {v} {m} {w} (shows r c z k) (stops y) = absurd (refuses-not-clear (find-checks file at) m w y c)
-told-one {file} {at} {n} {v} {m} {w} (shows r c z k) (shows {text = u} q d y l) =
+pub printed-one : {file : List ℕ} {at n v m w : ℕ} {s t : List ℕ} → Printed file at s n v → Printed file at t m w → (s ≡ t) × (n ≡ m) × (v ≡ w)
+printed-one {file} {at} {n} {v} {m} {w} (stops x) (stops y) = let same = refuses-one (find-checks file at) n v m w x y in (refl, same .0, same .1)
+printed-one {file} {at} {n} {v} (stops x) (shows r c z k) = absurd (refuses-not-clear (find-checks file at) n v x c)
+printed-one {file} {at} {n} {v} {m} {w} (shows r c z k) (stops y) = absurd (refuses-not-clear (find-checks file at) m w y c)
+printed-one {file} {at} {n} {v} {m} {w} (shows r c z k) (shows {text = u} q d y l) =
     let same = stands-one file at r q z y in
-    let more = told-one {m = m} {w = w} k (subst (λ p. Told file (at + length-of p) u m w) (sym same) l) in
+    let more = printed-one {m = m} {w = w} k (subst (λ p. Printed file (at + length-of p) u m w) (sym same) l) in
     (ap₂ (λ p u. line-of p ++ u) same (more .0), more .1, more .2)
 
 -- an end and a stop have a number
-told-number : {file : List ℕ} {at n v : ℕ} {t : List ℕ} → Told file at t n v → 1 ≤ n
-told-number {file} {at} {n} {v} (stops x) = refuses-each (λ m. 1 ≤ m) (find-checks file at) n v (omega arith, (omega arith, (omega arith, omega arith))) x
-told-number (shows r c z k) = told-number k
+printed-number : {file : List ℕ} {at n v : ℕ} {t : List ℕ} → Printed file at t n v → 1 ≤ n
+printed-number {file} {at} {n} {v} (stops x) = refuses-each (λ m. 1 ≤ m) (find-checks file at) n v (omega arith, (omega arith, (omega arith, omega arith))) x
+printed-number (shows r c z k) = printed-number k
 
 pub lines-only : (file out : List ℕ) (r s : Answer) (a b : List ℕ) → Lines file out r a → Lines file out s b → (r ≡ s) × (a ≡ b)
 lines-only file out r s a b p q =
-    let same = told-one (p .told) (q .told) in (
+    let same = printed-one (p .printed) (q .printed) in (
       says-only _ _ r s (λ n v m w x y. (
         x .0 ∙ ap (λ k. cond (eqb k 255) 0 k) (same .1) ∙ sym (y .0),
         x .1 ∙ ap₂ (λ k t. cond (eqb k 255) (length t) (p .value)) (same .1) (same .0) ∙ ap (λ u. cond (eqb (q .number) 255) (length (q .text)) u) (same .2) ∙ sym (y .1),
@@ -56,7 +56,7 @@ lines-only file out r s a b p q =
     )
 
 -- ---- how long
-line-short : (r : Record) → first-of r < 65536 → second-of r < 65536 → length (line-of r) ≤ 15
+line-short : (r : Record) → first-field r < 65536 → second-field r < 65536 → length (line-of r) ≤ 15
 line-short (Job a b) h i = simp length-append (omega (arith, decimal-short 4 a (omega arith), decimal-short 4 b (omega arith)))
 line-short (Order a b) h i = simp length-append (omega (arith, decimal-short 4 a (omega arith), decimal-short 4 b (omega arith)))
 line-short (Deadline a b) h i = simp length-append (omega (arith, decimal-short 4 a (omega arith), decimal-short 4 b (omega arith)))
@@ -64,7 +64,7 @@ line-short (Deadline a b) h i = simp length-append (omega (arith, decimal-short 
 -- ---- where the walk stands: at an offset, behind the lines `done`
 pub record Passed (file : List ℕ) (writing : Bool) (old : List ℕ) (at : ℕ) (to : ℕ) (new : List ℕ) : Type 0 where
   pub done : List ℕ
-  pub onward : (rest : List ℕ) (n v : ℕ) → Told file at rest n v → Told file 0 (done ++ rest) n v
+  pub onward : (rest : List ℕ) (n v : ℕ) → Printed file at rest n v → Printed file 0 (done ++ rest) n v
   pub inside : at ≤ length file
   pub short : 2 * length done ≤ 5 * at
   pub within : length done ≤ 61440
@@ -83,10 +83,10 @@ passed-start file writing old = record { done = []; onward = λ rest n v t. t; i
 
 module _ (file : List ℕ) (small : (i : ℕ) → getD file i 0 < 256) (old : List ℕ) (room : 61440 ≤ length old) (at to : ℕ) (new : List ℕ) where
   -- a record more
-  goes : (writing : Bool) (p : Passed file writing old at to new) (r : Record) → Finds file at (found.Record r) → (rest : List ℕ) (n v : ℕ) → Told file (at + length-of r) rest n v → Told file 0 (p .done ++ line-of r ++ rest) n v
+  goes : (writing : Bool) (p : Passed file writing old at to new) (r : Record) → Finds file at (found.Record r) → (rest : List ℕ) (n v : ℕ) → Printed file (at + length-of r) rest n v → Printed file 0 (p .done ++ line-of r ++ rest) n v
   goes writing p r f rest n v t =
       let x = finds-record file at r f in
-      subst (λ l. Told file 0 l n v) (sym (append-assoc (p .done) (line-of r) rest)) (p .onward (line-of r ++ rest) n v (shows r (stands-clear file at r (x .0) (x .1)) (x .1) t))
+      subst (λ l. Printed file 0 l n v) (sym (append-assoc (p .done) (line-of r) rest)) (p .onward (line-of r ++ rest) n v (shows r (stands-clear file at r (x .0) (x .1)) (x .1) t))
 
   passed-unwritten : (r : Record) → Passed file false old at to new → Finds file at (found.Record r) → Passed file false old (at + length-of r) to new
   passed-unwritten r p f =
@@ -135,8 +135,8 @@ found-within file at size r f e = (e ∙ length-six r, omega (arith, stands-with
 
 -- ---- what the walk tells at its end
 module _ (file old new : List ℕ) (writing : Bool) (at to : ℕ) (p : Passed file writing old at to new) where
-  told-here : (n v : ℕ) → Refuses (find-checks file at) n v → Told file 0 (p .done) n v
-  told-here n v x = subst (λ l. Told file 0 l n v) (append-nil (p .done)) (p .onward [] n v (stops x))
+  printed-here : (n v : ℕ) → Refuses (find-checks file at) n v → Printed file 0 (p .done) n v
+  printed-here n v x = subst (λ l. Printed file 0 l n v) (append-nil (p .done)) (p .onward [] n v (stops x))
 
   pub prints-end : Finds file at found.End → Prints file writing old (Accepted to) new
   prints-end f =
@@ -145,7 +145,7 @@ module _ (file old new : List ℕ) (writing : Bool) (at to : ℕ) (p : Passed fi
         text = p .done;
         number = 255;
         value = 0;
-        told = subst (λ m. Told file 0 (p .done) m 0) (sym (s .3 .0)) (subst (Told file 0 (p .done) (s .0)) (sym (s .3 .1)) (told-here (s .0) (s .1) (s .2)));
+        printed = subst (λ m. Printed file 0 (p .done) m 0) (sym (s .3 .0)) (subst (Printed file 0 (p .done) (s .0)) (sym (s .3 .1)) (printed-here (s .0) (s .1) (s .2)));
         within = p .within;
         answer = (refl, p .place);
         bytes = p .bytes;
@@ -154,14 +154,14 @@ module _ (file old new : List ℕ) (writing : Bool) (at to : ℕ) (p : Passed fi
   pub prints-stop : (n v : ℕ) → Finds file at (found.Stopped n v) → Prints file writing old (Refused n v) new
   prints-stop n v f =
       let s = finds-stop file at (found.Stopped n v) (λ x. x .1) f in
-      let here : Told file 0 (p .done) n v = subst (λ m. Told file 0 (p .done) m v) (sym (s .3 .1 .0)) (subst (Told file 0 (p .done) (s .0)) (sym (s .3 .1 .1)) (told-here (s .0) (s .1) (s .2))) in
+      let here : Printed file 0 (p .done) n v = subst (λ m. Printed file 0 (p .done) m v) (sym (s .3 .1 .0)) (subst (Printed file 0 (p .done) (s .0)) (sym (s .3 .1 .1)) (printed-here (s .0) (s .1) (s .2))) in
       record {
         text = p .done;
         number = n;
         value = v;
-        told = here;
+        printed = here;
         within = p .within;
-        answer = (told-number here, (simp (ne-eqb n 255 (s .3 .0)), simp (ne-eqb n 255 (s .3 .0))));
+        answer = (printed-number here, (simp (ne-eqb n 255 (s .3 .0)), simp (ne-eqb n 255 (s .3 .0))));
         bytes = p .bytes;
       }
 
@@ -172,17 +172,17 @@ module _ (file old mid new : List ℕ) (room : 61440 ≤ length old) where
     where
       go : (t : Bool) → eqb (p .number) 255 ≡ t → n ≡ cond t 0 (p .number) → v ≡ cond t 0 (p .value) → Lines file old (Refused n v) new
       go true e f g = absurd (omega (arith, f, p .answer .0))
-      go false e f g = record { text = p .text; number = p .number; value = p .value; told = p .told; within = omega (arith, p .within); answer = (p .answer .0, (simp e f, simp e g)); bytes = simp e (p .bytes) }
+      go false e f g = record { text = p .text; number = p .number; value = p .value; printed = p .printed; within = omega (arith, p .within); answer = (p .answer .0, (simp e f, simp e g)); bytes = simp e (p .bytes) }
 
   pub lines-end : (n : ℕ) (r : Answer) → Prints file false old (Accepted n) mid → Prints file true mid r new → Lines file old r new
   lines-end n r p q = go (eqb (p .number) 255) refl (p .answer .0)
     where
       go : (t : Bool) → eqb (p .number) 255 ≡ t → 0 ≡ cond t 0 (p .number) → Lines file old r new
       go true e f =
-          let same = told-one (p .told) (q .told) in
+          let same = printed-one (p .printed) (q .printed) in
           let whole : eqb (q .number) 255 ≡ true = rw (← same .1) e in
-          record { text = q .text; number = q .number; value = q .value; told = q .told; within = omega (arith, q .within); answer = q .answer; bytes = simp whole (q .bytes ∙ ap (λ l. sets l 0 (q .text)) (p .bytes)) }
-      go false e f = absurd (omega (arith, f, told-number (p .told)))
+          record { text = q .text; number = q .number; value = q .value; printed = q .printed; within = omega (arith, q .within); answer = q .answer; bytes = simp whole (q .bytes ∙ ap (λ l. sets l 0 (q .text)) (p .bytes)) }
+      go false e f = absurd (omega (arith, f, printed-number (p .printed)))
 
 -- what is written lies within the bytes lent
 pub lines-within : (file out : List ℕ) (n : ℕ) (after : List ℕ) → Lines file out (Accepted n) after → n ≤ length after
@@ -190,4 +190,4 @@ lines-within file out n after p = go (eqb (p .number) 255) (p .answer .0) (p .an
   where
     go : (t : Bool) → 0 ≡ cond t 0 (p .number) → n ≡ cond t (length (p .text)) (p .value) → after ≡ cond t (sets out 0 (p .text)) out → n ≤ length after
     go true e f g = omega (arith, f, p .within, ap length g, length-sets out 0 (p .text))
-    go false e f g = absurd (omega (arith, e, told-number (p .told)))
+    go false e f g = absurd (omega (arith, e, printed-number (p .printed)))

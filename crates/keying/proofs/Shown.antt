@@ -12,16 +12,16 @@ use lib.Dec.{eqb, leb, ltb}
 use lib.ListN.{length, getD, length-append}
 use borrow.Author.Tests.{le-leb, lt-leb, ne-eqb}
 use Rattle.records.specs.Find.{record-named}
-use Rattle.keying.specs.Text.{inner, digit, digits, counted, mark, grown-by, field, or-else, first-word, worded, Page, Turn, on, tells, wrong, fresh, grown, finished, ended, turn}
-use Rattle.keying.specs.Inner.Machine.{number-with, word-with, word-mark, numbered, no-mark, first-by, entry-with, no-word, blank-reader, reader-grown, reader-finished, reader-ended, reader-taken, reader-step}
+use Rattle.keying.specs.Text.{inner, digit, digits, counted, mark, grown-by, field, or-else, first-word, worded, Page, Turn, on, entered, wrong, fresh, grown, finished, ended, turn}
+use Rattle.keying.specs.Inner.Machine.{number-with, word-with, word-mark, numbered, no-mark, first-by, entry-with, no-word, blank-reader, reader-grown, reader-finished, reader-ended, reader-taken, reader-turn}
 use Rattle.keying.specs.declared.word.Word.{Word}
 use Rattle.keying.specs.declared.entry.Entry.{Entry}
 use Rattle.keying.specs.declared.entry.Slip.the-variants.{UnknownWord, MissingField, ExtraField, NotNumber, TooLarge, CommaNumber}
 use Rattle.keying.specs.declared.entry.Taken.{Taken}
 use Rattle.keying.specs.declared.entry.Taken.the-variants.{Grown, Wrong}
 use Rattle.keying.specs.declared.reader.Reader.{Reader}
-use Rattle.keying.specs.declared.reader.Step.{Step}
-use Rattle.keying.specs.declared.reader.Step.the-variants as step
+use Rattle.keying.specs.declared.reader.Went.{Went}
+use Rattle.keying.specs.declared.reader.Went.the-variants as went
 
 -- ---- a word
 -- its number: 65,536 for one that is too large, 65,537 for none
@@ -128,12 +128,12 @@ entry-shown e place (b ∷ w) =
 
 -- ---- a page
 unfoldable pub shown : Page → Reader
-shown p = record { line = p .line; entry = p .entry; remark = p .remark; told = p .told; word = seen (p .word) }
+shown p = record { line = p .line; entry = p .entry; remark = p .remark; partial = p .partial; word = seen (p .word) }
 
-abbrev pub shown-turn : Turn → Step
-shown-turn (on p) = step.On (shown p)
-shown-turn (tells p r) = step.Told (shown p) r
-shown-turn (wrong slip size) = step.Wrong slip size
+abbrev pub shown-turn : Turn → Went
+shown-turn (on p) = went.On (shown p)
+shown-turn (entered p r) = went.Entry (shown p) r
+shown-turn (wrong slip size) = went.Wrong slip size
 
 pub fresh-shown : (line entry : ℕ) → blank-reader line entry ≡ shown (fresh line entry)
 unfolding blank-reader shown fresh
@@ -143,8 +143,8 @@ grown-shown : (p : Page) (b : ℕ) → reader-grown (shown p) b ≡ shown (grown
 unfolding reader-grown shown grown
 grown-shown p b = go (p .remark)
   where
-    go : (t : Bool) → cond t (shown p) (record { line = p .line; entry = p .entry; remark = false; told = p .told; word = word-with (seen (p .word)) b })
-        ≡ shown (cond t p (record { line = p .line; entry = p .entry; remark = false; told = p .told; word = p .word ++ (b ∷ []) }))
+    go : (t : Bool) → cond t (shown p) (record { line = p .line; entry = p .entry; remark = false; partial = p .partial; word = word-with (seen (p .word)) b })
+        ≡ shown (cond t p (record { line = p .line; entry = p .entry; remark = false; partial = p .partial; word = p .word ++ (b ∷ []) }))
     go true = refl
     go false = rw (word-shown (p .word) b)
 
@@ -152,8 +152,8 @@ finished-shown : (e : Entry) (p : Page) → reader-finished e (shown p) ≡ show
 unfolding reader-finished finished
 finished-shown e p = go (eqb (e .filled) 0) (eqb (e .filled) 3)
   where
-    go : (none whole : Bool) → cond none (step.On (shown p)) (cond whole (step.Told (shown p) (e .told)) (step.Wrong MissingField 0))
-        ≡ shown-turn (cond none (on p) (cond whole (tells p (e .told)) (wrong MissingField 0)))
+    go : (none whole : Bool) → cond none (went.On (shown p)) (cond whole (went.Entry (shown p) (e .told)) (went.Wrong MissingField 0))
+        ≡ shown-turn (cond none (on p) (cond whole (entered p (e .told)) (wrong MissingField 0)))
     go true whole = refl
     go false true = refl
     go false false = refl
@@ -164,25 +164,25 @@ ended-shown p b (Wrong slip) = unfold seen in refl
 ended-shown p b (Grown e) = go (eqb b 10) (eqb b 44)
   where
     gap : Page
-    gap = record { line = p .line; entry = p .entry; remark = eqb b 35; told = e; word = [] }
+    gap = record { line = p .line; entry = p .entry; remark = eqb b 35; partial = e; word = [] }
 
     go : (line comma : Bool)
         → cond line (reader-finished e (blank-reader (p .line + 1) 1))
         (cond comma (reader-finished e (blank-reader (p .line) (p .entry + 1)))
-        (step.On (record { line = p .line; entry = p .entry; remark = eqb b 35; told = e; word = no-word })))
+        (went.On (record { line = p .line; entry = p .entry; remark = eqb b 35; partial = e; word = no-word })))
         ≡ shown-turn (cond line (finished e (fresh (p .line + 1) 1)) (cond comma (finished e (fresh (p .line) (p .entry + 1))) (on gap)))
     go true comma = rw (fresh-shown (p .line + 1) 1) (finished-shown e (fresh (p .line + 1) 1))
     go false true = rw (fresh-shown (p .line) (p .entry + 1)) (finished-shown e (fresh (p .line) (p .entry + 1)))
     go false false = rw no-seen
 
-pub turn-shown : (p : Page) (b : ℕ) → reader-step (shown p) b ≡ shown-turn (turn p b)
-unfolding reader-step turn shown
+pub turn-shown : (p : Page) (b : ℕ) → reader-turn (shown p) b ≡ shown-turn (turn p b)
+unfolding reader-turn turn shown
 turn-shown p b =
-    ap₂ (λ x y. cond (inner (p .remark) b) (step.On x) y) (grown-shown p b)
-    (ap (reader-taken (shown p) b) (entry-shown (p .told) (p .entry) (p .word)) ∙ ended-shown p b (worded (p .entry) (p .told) (p .word)))
-    ∙ go (inner (p .remark) b) (grown p b) (ended p b (worded (p .entry) (p .told) (p .word)))
+    ap₂ (λ x y. cond (inner (p .remark) b) (went.On x) y) (grown-shown p b)
+    (ap (reader-taken (shown p) b) (entry-shown (p .partial) (p .entry) (p .word)) ∙ ended-shown p b (worded (p .entry) (p .partial) (p .word)))
+    ∙ go (inner (p .remark) b) (grown p b) (ended p b (worded (p .entry) (p .partial) (p .word)))
   where
-    go : (t : Bool) (q : Page) (u : Turn) → cond t (step.On (shown q)) (shown-turn u) ≡ shown-turn (cond t (on q) u)
+    go : (t : Bool) (q : Page) (u : Turn) → cond t (went.On (shown q)) (shown-turn u) ≡ shown-turn (cond t (on q) u)
     go true q u = refl
     go false q u = refl
 

@@ -16,10 +16,10 @@ use Rattle.records.specs.Record.{bytes-of, length-of}
 use Rattle.records.proofs.Standing.{bytes-length}
 use Rattle.records.proofs.Stored.{sets-append}
 use Rattle.keying.specs.Slip.{slip-number}
-use Rattle.keying.specs.Text.{inner, worded, Page, Turn, on, tells, wrong, fresh, grown, finished, ended, turn, Ending, complete, mistake, Meaning, stopped, heard, read, begin, meaning}
+use Rattle.keying.specs.Text.{inner, worded, Page, Turn, on, entered, wrong, fresh, grown, finished, ended, turn, Ending, complete, mistake, Meaning, stopped, heard, read, begin, meaning}
 use Rattle.keying.specs.Keys.{Answers}
 use Rattle.keying.specs.Inner.Walk.{Walks}
-use Rattle.keying.specs.Inner.Machine.{Counts, blank-reader, reader-step}
+use Rattle.keying.specs.Inner.Machine.{Counts, blank-reader, reader-turn}
 use Rattle.keying.specs.declared.entry.Entry.{Entry}
 use Rattle.keying.specs.declared.entry.Taken.{Taken}
 use Rattle.keying.specs.declared.entry.Taken.the-variants.{Grown, Wrong}
@@ -27,8 +27,8 @@ use Rattle.keying.specs.declared.entry.Slip.{Slip}
 use Rattle.keying.specs.declared.entry.Slip.the-variants.{TooMany}
 use Rattle.keying.specs.declared.keyed.Keyed.{Keyed}
 use Rattle.keying.specs.declared.reader.Reader.{Reader}
-use Rattle.keying.specs.declared.reader.Step.{Step}
-use Rattle.keying.specs.declared.reader.Step.the-variants as step
+use Rattle.keying.specs.declared.reader.Went.{Went}
+use Rattle.keying.specs.declared.reader.Went.the-variants as went
 use Rattle.keying.proofs.Shown.{shown, shown-turn, fresh-shown, turn-shown, shown-counts}
 
 -- the text with the newline that ends its last line
@@ -41,7 +41,7 @@ Small i p = (p .line ≤ i + 1) × (p .entry ≤ i + 1) × (length (p .word) ≤
 
 abbrev After : ℕ → Turn → Type 0
 After i (on q) = Small (i + 1) q
-After i (tells q r) = Small (i + 1) q
+After i (entered q r) = Small (i + 1) q
 After i (wrong slip size) = size ≤ i
 
 either : (i : ℕ) (t : Bool) (x y : Turn) → After i x → After i y → After i (cond t x y)
@@ -52,7 +52,7 @@ small-grown : (i : ℕ) (p : Page) (b : ℕ) → Small i p → Small (i + 1) (gr
 unfolding grown
 small-grown i p b h = go (p .remark)
   where
-    go : (t : Bool) → Small (i + 1) (cond t p (record { line = p .line; entry = p .entry; remark = false; told = p .told; word = p .word ++ (b ∷ []) }))
+    go : (t : Bool) → Small (i + 1) (cond t p (record { line = p .line; entry = p .entry; remark = false; partial = p .partial; word = p .word ++ (b ∷ []) }))
     go true = (omega (arith, h .0), omega (arith, h .1), omega (arith, h .2))
     go false = (omega (arith, h .0), omega (arith, h .1), simp length-append (omega (arith, h .2)))
 
@@ -69,7 +69,7 @@ small-ended i p b (Grown e) h =
 
 small-turn : (i : ℕ) (p : Page) (b : ℕ) → Small i p → After i (turn p b)
 unfolding turn
-small-turn i p b h = either i (inner (p .remark) b) _ _ (small-grown i p b h) (small-ended i p b (worded (p .entry) (p .told) (p .word)) h)
+small-turn i p b h = either i (inner (p .remark) b) _ _ (small-grown i p b h) (small-ended i p b (worded (p .entry) (p .partial) (p .word)) h)
 
 -- ---- where the walk stands
 -- before byte i, with the bytes `done` found
@@ -104,19 +104,19 @@ module _ (text : List ℕ) (reader : Reader) (i : ℕ) (done : List ℕ) where
   abbrev Stops : Slip → ℕ → ℕ → Type 0
   Stops slip start size = meaning text ≡ record { file = done; ending = mistake (reader .line) (reader .entry) (slip-number slip) start size }
 
-  -- what follows from a step
-  abbrev pub Follows : Step → Type 0
-  Follows (step.On next) = Reached text next (i + 1) done
-  Follows (step.Told next r) =
+  -- what a byte means for the walk
+  abbrev pub Means : Went → Type 0
+  Means (went.On next) = Reached text next (i + 1) done
+  Means (went.Entry next r) =
       (length done + length-of r ≤ 24576 → Reached text next (i + 1) (done ++ bytes-of r)) × (24576 < length done + length-of r → Stops TooMany (i - 0) 0)
-  Follows (step.Wrong slip size) = (size ≤ i) × Stops slip (i - size) size
+  Means (went.Wrong slip size) = (size ≤ i) × Stops slip (i - size) size
 
-  pub follows : Reached text reader i done → i ≤ length text → (s : Step) → reader-step reader (getD text i 10) ≡ s → Follows s
+  pub went-means : Reached text reader i done → i ≤ length text → (s : Went) → reader-turn reader (getD text i 10) ≡ s → Means s
   unfolding read heard stopped
-  follows w h s e =
+  went-means w h s e =
       let b = getD text i 10 in
       let o : read done (w .page) i (b ∷ drop (i + 1) (lined text)) ≡ meaning text = rw (cut text i h) at (w .onward) in
-      subst Follows (sym (turn-shown (w .page) b) ∙ ap (λ r. reader-step r b) (sym (w .shows)) ∙ e) (by-turn (turn (w .page) b) o (small-turn i (w .page) b (w .small)))
+      subst Means (sym (turn-shown (w .page) b) ∙ ap (λ r. reader-turn r b) (sym (w .shows)) ∙ e) (by-turn (turn (w .page) b) o (small-turn i (w .page) b (w .small)))
     where
       same-line : reader .line ≡ w .page .line
       same-line = ap (λ r. r .line) (w .shows) ∙ shown-counts (w .page) .0
@@ -124,9 +124,9 @@ module _ (text : List ℕ) (reader : Reader) (i : ℕ) (done : List ℕ) where
       same-entry : reader .entry ≡ w .page .entry
       same-entry = ap (λ r. r .entry) (w .shows) ∙ shown-counts (w .page) .1
 
-      by-turn : (t : Turn) → heard done (w .page) i t (λ more q. read more q (i + 1) (drop (i + 1) (lined text))) ≡ meaning text → After i t → Follows (shown-turn t)
+      by-turn : (t : Turn) → heard done (w .page) i t (λ more q. read more q (i + 1) (drop (i + 1) (lined text))) ≡ meaning text → After i t → Means (shown-turn t)
       by-turn (on q) o a = record { page = q; shows = refl; onward = o; small = a }
-      by-turn (tells q r) o a = (
+      by-turn (entered q r) o a = (
         (λ fits. record { page = q; shows = refl; onward = rw (le-leb (length done + length-of r) 24576 fits) at o; small = a }),
         (λ over. let same : i - 0 ≡ i = omega arith in rw (same-line, same-entry, same) (sym (rw (lt-leb (length done + length-of r) 24576 over) at o))),
       )
@@ -167,7 +167,7 @@ heard-few : (done : List ℕ) (p : Page) (i : ℕ) (t : Turn) (next : List ℕ �
     → ((more : List ℕ) (q : Page) → length more ≤ 24576 → length (next more q .file) ≤ 24576) → length (heard done p i t next .file) ≤ 24576
 unfolding heard stopped
 heard-few done p i (on q) next h f = f done q h
-heard-few done p i (tells q r) next h f = go (leb (length done + length-of r) 24576) refl
+heard-few done p i (entered q r) next h f = go (leb (length done + length-of r) 24576) refl
   where
     go : (t : Bool) → leb (length done + length-of r) 24576 ≡ t → length (cond t (next (done ++ bytes-of r) q) (stopped done p TooMany i 0) .file) ≤ 24576
     go true e = f (done ++ bytes-of r) q (simp length-append (omega (arith, bytes-length r, leb-true (length done + length-of r) 24576 e)))

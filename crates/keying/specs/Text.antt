@@ -92,26 +92,26 @@ pub record Page : Type 0 where
   pub line : ℕ
   pub entry : ℕ
   pub remark : Bool
-  pub told : Entry
+  pub partial : Entry
   pub word : List ℕ
 
 -- the start of an entry
 unfoldable pub fresh : ℕ → ℕ → Page
-fresh line entry = record { line = line; entry = entry; remark = false; told = no-entry; word = [] }
+fresh line entry = record { line = line; entry = entry; remark = false; partial = no-entry; word = [] }
 
--- what a byte does: the reader goes on; an entry ended and told a record; a mistake, with the size of the word that is wrong, and 0 where none is
+-- what a byte does: the reader goes on; an entry ended, with its record; a mistake, with the size of the word that is wrong, and 0 where none is
 pub data Turn : Type 0 where
   on : Page → Turn
-  tells : Page → Record → Turn
+  entered : Page → Record → Turn
   wrong : Slip → ℕ → Turn
 
 -- a byte of a word, or of a remark
 unfoldable pub grown : Page → ℕ → Page
-grown p b = cond (p .remark) p (record { line = p .line; entry = p .entry; remark = false; told = p .told; word = p .word ++ (b ∷ []) })
+grown p b = cond (p .remark) p (record { line = p .line; entry = p .entry; remark = false; partial = p .partial; word = p .word ++ (b ∷ []) })
 
 -- the end of an entry: it has no word, or three
 unfoldable pub finished : Entry → Page → Turn
-finished e next = cond (eqb (e .filled) 0) (on next) (cond (eqb (e .filled) 3) (tells next (e .told)) (wrong MissingField 0))
+finished e next = cond (eqb (e .filled) 0) (on next) (cond (eqb (e .filled) 3) (entered next (e .told)) (wrong MissingField 0))
 
 -- a word ended: newline; comma; else `#` or a blank
 unfoldable pub ended : Page → ℕ → Taken → Turn
@@ -119,10 +119,10 @@ ended p b (Wrong slip) = wrong slip (length (p .word))
 ended p b (Grown e) =
     cond (eqb b 10) (finished e (fresh (p .line + 1) 1))
     (cond (eqb b 44) (finished e (fresh (p .line) (p .entry + 1)))
-    (on (record { line = p .line; entry = p .entry; remark = eqb b 35; told = e; word = [] })))
+    (on (record { line = p .line; entry = p .entry; remark = eqb b 35; partial = e; word = [] })))
 
 unfoldable pub turn : Page → ℕ → Turn
-turn p b = cond (inner (p .remark) b) (on (grown p b)) (ended p b (worded (p .entry) (p .told) (p .word)))
+turn p b = cond (inner (p .remark) b) (on (grown p b)) (ended p b (worded (p .entry) (p .partial) (p .word)))
 
 -- ---- a whole text
 -- no mistake; or its line, its entry, its number, where the word that is wrong stands in the text, and the word's size
@@ -141,7 +141,7 @@ stopped done p slip start size = record { file = done; ending = mistake (p .line
 -- what follows from a byte at a place (01, Numbers and limits: "A job file holds at most 24,576 bytes")
 unfoldable pub heard : List ℕ → Page → ℕ → Turn → (List ℕ → Page → Meaning) → Meaning
 heard done p i (on q) next = next done q
-heard done p i (tells q r) next = cond (leb (length done + length-of r) 24576) (next (done ++ bytes-of r) q) (stopped done p TooMany i 0)
+heard done p i (entered q r) next = cond (leb (length done + length-of r) 24576) (next (done ++ bytes-of r) q) (stopped done p TooMany i 0)
 heard done p i (wrong slip size) next = stopped done p slip (i - size) size
 
 -- the bytes found already, then those of the rest, which begins at a place

@@ -2,7 +2,7 @@
 use crate::entry::Slip;
 use crate::reader;
 use crate::reader::Reader;
-use crate::reader::Step;
+use crate::reader::Went;
 use records::Record;
 ghost use mathlib.Core.Bool.{cond};
 ghost use mathlib.Core.Path.{_≡_};
@@ -51,10 +51,10 @@ fn walk(text: &[u8], out: &mut [u8], writing: bool) -> Keyed
     let mut i = begin(text);
     while i <= text.len() {
         match reader::take(reader, byte_at(text, i)) {
-            Step::On(next) => {
+            Went::On(next) => {
                 reader = next;
             }
-            Step::Told(next, told) => {
+            Went::Entry(next, told) => {
                 if records::length_of(told) > 24576 - at {
                     return slipped(reader, Slip::TooMany, i, 0);
                 }
@@ -62,7 +62,7 @@ fn walk(text: &[u8], out: &mut [u8], writing: bool) -> Keyed
                 at += records::length_of(told);
                 reader = next;
             }
-            Step::Wrong(slip, size) => {
+            Went::Wrong(slip, size) => {
                 return slipped(reader, slip, i, size);
             }
         }

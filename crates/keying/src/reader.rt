@@ -8,7 +8,7 @@ use crate::word::Word;
 use records::Record;
 ghost use mathlib.Core.Path.{_≡_};
 ghost use Rattle.keying.specs.Text.{blank, inner};
-ghost use Rattle.keying.specs.Inner.Machine.{Counts, blank-reader, reader-grown, reader-ended, reader-finished, reader-step};
+ghost use Rattle.keying.specs.Inner.Machine.{Counts, blank-reader, reader-grown, reader-ended, reader-finished, reader-turn};
 
 const NEWLINE: u8 = b'\n';
 
@@ -23,14 +23,15 @@ pub struct Reader {
     pub entry: usize,
     // within a remark
     pub remark: bool,
-    pub told: Entry,
+    // the entry so far
+    pub partial: Entry,
     pub word: Word,
 }
 
-pub enum Step {
+pub enum Went {
     On(Reader),
     // an entry ended
-    Told(Reader, Record),
+    Entry(Reader, Record),
     // with the size of the word that is wrong, and 0 where none is
     Wrong(Slip, usize),
 }
@@ -43,23 +44,23 @@ pub fn fresh(line: usize, entry: usize) -> Reader
         line: line,
         entry: entry,
         remark: false,
-        told: entry::none(),
+        partial: entry::none(),
         word: word::none(),
     }
 }
 
 // What the byte does: it belongs to a word or a remark, or a word ends before it.
-pub fn take(reader: Reader, byte: u8) -> Step
+pub fn take(reader: Reader, byte: u8) -> Went
     requires { ⌜ Counts reader ⌝ }
-    ensures { λ r. ⌜ r ≡ reader-step reader byte ⌝ }
+    ensures { λ r. ⌜ r ≡ reader-turn reader byte ⌝ }
 {
     if is_inner(reader.remark, byte) {
-        return Step::On(grown(reader, byte));
+        return Went::On(grown(reader, byte));
     }
-    let told = reader.told;
+    let partial = reader.partial;
     let word = reader.word;
-    match entry::with(told, reader.entry, word) {
-        Taken::Wrong(slip) => Step::Wrong(slip, word.size),
+    match entry::with(partial, reader.entry, word) {
+        Taken::Wrong(slip) => Went::Wrong(slip, word.size),
         Taken::Grown(more) => ended(reader, more, byte),
     }
 }
@@ -69,7 +70,7 @@ fn grown(reader: Reader, byte: u8) -> Reader
     ensures { λ r. ⌜ r ≡ reader-grown reader byte ⌝ }
 {
     let remark = reader.remark;
-    let told = reader.told;
+    let partial = reader.partial;
     let word = reader.word;
     if remark {
         return reader;
@@ -78,45 +79,45 @@ fn grown(reader: Reader, byte: u8) -> Reader
         line: reader.line,
         entry: reader.entry,
         remark: false,
-        told: told,
+        partial: partial,
         word: word::with(word, byte),
     }
 }
 
 // After the word: a newline and a comma end the entry.
-fn ended(reader: Reader, told: Entry, byte: u8) -> Step
+fn ended(reader: Reader, partial: Entry, byte: u8) -> Went
     requires { ⌜ Counts reader ⌝ }
-    ensures { λ r. ⌜ r ≡ reader-ended reader told byte ⌝ }
+    ensures { λ r. ⌜ r ≡ reader-ended reader partial byte ⌝ }
 {
     let line = reader.line;
     let entry = reader.entry;
     if byte == NEWLINE {
-        return finished(told, fresh(line + 1, 1));
+        return finished(partial, fresh(line + 1, 1));
     }
     if byte == COMMA {
-        return finished(told, fresh(line, entry + 1));
+        return finished(partial, fresh(line, entry + 1));
     }
-    Step::On(Reader {
+    Went::On(Reader {
         line: line,
         entry: entry,
         remark: byte == HASH,
-        told: told,
+        partial: partial,
         word: word::none(),
     })
 }
 
-fn finished(told: Entry, next: Reader) -> Step
-    ensures { λ r. ⌜ r ≡ reader-finished told next ⌝ }
+fn finished(partial: Entry, next: Reader) -> Went
+    ensures { λ r. ⌜ r ≡ reader-finished partial next ⌝ }
 {
-    let filled = told.filled;
-    let whole = told.told;
+    let filled = partial.filled;
+    let whole = partial.told;
     if filled == 0 {
-        return Step::On(next);
+        return Went::On(next);
     }
     if filled == 3 {
-        return Step::Told(next, whole);
+        return Went::Entry(next, whole);
     }
-    Step::Wrong(Slip::MissingField, 0)
+    Went::Wrong(Slip::MissingField, 0)
 }
 
 // Part of a word or of a remark.

@@ -21,7 +21,7 @@ module _ (k : Book) (m : Made k) where
   latest-fits : (i : ℕ) → i < k .size → latest-of k i ≤ horizon
   latest-fits i l = le-trans (t .holds .latest .beneath i l) (t .limited .deadline i (omega (arith, t .holds .reads .size)))
 
-  pub book-plan : theorem.Made cores (jobs-of k) (latest-of k) (latest-of k) unplaced horizon (plan-of k)
+  pub book-plan : theorem.PlanMade cores (jobs-of k) (latest-of k) (latest-of k) unplaced horizon (plan-of k)
   book-plan = theorem.plan-made cores (jobs-of k) (t .holds .early) (latest-of k) (latest-of k) unplaced horizon (omega arith) (omega arith)
       (reads-closed (m .0) (jobs-of k) (t .holds .reads)) (t .holds .earliest)
       (record { consistent = t .holds .latest .consistent; beneath = λ i l. le-refl (latest-of k i); greatest = λ other c b. b })

@@ -8,7 +8,7 @@ use schedule::CoreIndex;
 use schedule::JobIndex;
 use schedule::SlotTime;
 ghost use mathlib.Core.Path.{_≡_};
-ghost use Rattle.book.specs.Told.{Made, held, jobs-in, row-in, cores};
+ghost use Rattle.book.specs.Told.{Made, book-in, jobs-in, row-in, cores};
 ghost use Rattle.plan.specs.Inner.Layout.{Serving, Serves, Lays, core-in};
 
 // Each job's slot, the jobs on core 1, and the finishing time.
@@ -27,8 +27,8 @@ pub struct Stage {
 
 // Slot after slot until every job is placed.
 pub fn lay_out(times: &Times, before: &Before) -> Layout
-    requires { ⌜ Made (held (now times) (now before)) ⌝ }
-    ensures { λ r. ⌜ Lays (held (now (times .entry)) (now (before .entry))) r ⌝ }
+    requires { ⌜ Made (book-in (now times) (now before)) ⌝ }
+    ensures { λ r. ⌜ Lays (book-in (now (times .entry)) (now (before .entry))) r ⌝ }
 {
     let size = size_of(times);
     let start = book::starts(times);

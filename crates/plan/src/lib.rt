@@ -15,7 +15,7 @@ use times::size_of;
 use times::time_at;
 ghost use mathlib.Core.Path.{_≡_};
 ghost use Rattle.refusal.specs.Says.{Says};
-ghost use Rattle.book.specs.Told.{Made, held};
+ghost use Rattle.book.specs.Told.{Made, book-in};
 ghost use Rattle.plan.specs.Plan.{Plans};
 ghost use Rattle.plan.specs.Span.{span-of};
 ghost use Rattle.plan.specs.Placed.{Sites};
@@ -31,8 +31,8 @@ const UNPLACED: u16 = 4096;
 
 // Two bytes a slot, core 0 first, 255 for an idle core, from slot 0 to the finishing time.
 pub fn plan(times: &Times, before: &Before, out: &mut [u8]) -> Answer
-    requires { ⌜ Made (held (now times) (now before)) ⌝ }
-    ensures { λ r. ⌜ Says r (Plans (held (now (times .entry)) (now (before .entry))) (now (out .entry)) (now (out .exit))) ⌝ }
+    requires { ⌜ Made (book-in (now times) (now before)) ⌝ }
+    ensures { λ r. ⌜ Says r (Plans (book-in (now (times .entry)) (now (before .entry))) (now (out .entry)) (now (out .exit))) ⌝ }
 {
     let laid = layout::lay_out(times, before);
     let finish = laid.finish;
@@ -63,8 +63,8 @@ pub fn span<'a>(plan: &'a [u8], from: SlotTime, to: SlotTime) -> &'a [u8]
 
 // The place of a job: its slot, its core, its end and its spare.
 pub fn place(times: &Times, before: &Before, job: JobIndex) -> Placed
-    requires { ⌜ Made (held (now times) (now before)) ⌝ }
-    ensures { λ r. ⌜ Sites r (Places (held (now (times .entry)) (now (before .entry))) (job .0)) ⌝ }
+    requires { ⌜ Made (book-in (now times) (now before)) ⌝ }
+    ensures { λ r. ⌜ Sites r (Places (book-in (now (times .entry)) (now (before .entry))) (job .0)) ⌝ }
 {
     let i = job.0;
     if i >= size_of(times) {

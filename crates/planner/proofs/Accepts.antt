@@ -26,7 +26,7 @@ use Rattle.planner.specs.declared.chains.Pending.{Pending}
 use Rattle.planner.specs.Inner.Chains.{Links, entries, joined-rows}
 use Rattle.sets.proofs.Bits.{only}
 use Rattle.sets.proofs.Range.{with-is}
-use Rattle.schedule.proofs.Same.{reads-one, plan-one}
+use Rattle.schedule.proofs.Readings.{reads-one, plan-one}
 use Rattle.refusal.specs.Table.{Clear}
 use Rattle.refusal.proofs.Table.{then-table}
 use Rattle.planner.proofs.Orders.{loop-left}

@@ -26,7 +26,7 @@ use Rattle.planner.specs.Requests.{held-checks, loop-checks, plan-check,
 use Rattle.book.proofs.Parts.{with-latest}
 use Rattle.planner.specs.Inner.Chains.{Links}
 use Rattle.planner.specs.Inner.Tighten.{Tightenable, Tightens}
-use Rattle.schedule.proofs.Same.{plan-one}
+use Rattle.schedule.proofs.Readings.{plan-one}
 use Rattle.planner.proofs.Orders.{held-clear, loop-clear}
 
 pub true-T : (b : Bool) → b ≡ true → T b

@@ -15,8 +15,8 @@ use Rattle.schedule.specs.Times.{Earliest, Latest}
 use Rattle.schedule.proofs.Tests.{le-or-lt}
 use Rattle.schedule.proofs.Early.{exists-earliest}
 use Rattle.schedule.proofs.Theorem.{row-iff-plan}
-use Rattle.book.specs.Told.{Book, cores, part, held, jobs-in, row-in}
-use Rattle.book.proofs.Parts.{part-length, part-in, held-late, with-latest}
+use Rattle.book.specs.Told.{Book, cores, part, book-in, jobs-in, row-in}
+use Rattle.book.proofs.Parts.{part-length, part-in, book-in-late, with-latest}
 use Rattle.planner.specs.Inner.Tighten.{Tightenable, Tightens}
 use Rattle.refusal.specs.Table.{refused, passed}
 use Rattle.planner.specs.List.{judged}
@@ -43,7 +43,7 @@ hands-all n times row next l m h = ext-getD 0 next times (h .same-length ∙ m �
 -- ---- latest times, written to their place in a book
 pub record Keeping (row times : List ℕ) (i : ℕ) (next : List ℕ) : Type 0 where
   pub same-length : length next ≡ length times
-  pub book : (before : List ℕ) → held next before ≡ with-latest (held times before) (part 65 next)
+  pub book : (before : List ℕ) → book-in next before ≡ with-latest (book-in times before) (part 65 next)
   pub handed : Hands i row (part 65 times) (part 65 next)
 
 pub keeping-none : (row times : List ℕ) → Keeping row times 0 times
@@ -53,15 +53,15 @@ module _ (row times next : List ℕ) (long : 129 ≤ length times) where
   pub keeping-more : (i : ℕ) → i < 64 → Keeping row times i next → Keeping row times (i + 1) (set next (65 + i) (getD row i 0))
   keeping-more i l k = record {
     same-length = length-set next (65 + i) (getD row i 0) ∙ k .same-length;
-    book = λ before. held-late next before (omega (arith, long, k .same-length)) i (getD row i 0) l ∙ ap (λ (b : Book). with-latest b (set (part 65 next) i (getD row i 0))) (k .book before)
-        ∙ ap (with-latest (held times before)) (sym (part-in 65 next i (getD row i 0) l));
+    book = λ before. book-in-late next before (omega (arith, long, k .same-length)) i (getD row i 0) l ∙ ap (λ (b : Book). with-latest b (set (part 65 next) i (getD row i 0))) (k .book before)
+        ∙ ap (with-latest (book-in times before)) (sym (part-in 65 next i (getD row i 0) l));
     handed = rw (part-in 65 next i (getD row i 0) l) (hands-more i row (part 65 times) (part 65 next) (omega (arith, part-length 65 times (omega (arith, long)))) (k .handed));
   }
 
   pub keeping-all : length row ≡ 64 → Keeping row times 64 next → Keeps row times next
   keeping-all l k = record {
     same-length = k .same-length;
-    book = λ before. k .book before ∙ ap (with-latest (held times before)) (hands-all 64 row (part 65 times) (part 65 next) l (part-length 65 times (omega (arith, long))) (k .handed));
+    book = λ before. k .book before ∙ ap (with-latest (book-in times before)) (hands-all 64 row (part 65 times) (part 65 next) l (part-length 65 times (omega (arith, long))) (k .handed));
   }
 
 -- ---- a whole row, handed over to zeros

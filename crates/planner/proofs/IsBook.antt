@@ -16,9 +16,9 @@ use Rattle.schedule.specs.Times.{Earliest}
 use Rattle.schedule.specs.Listed.{Listed, ordered, Chain, link, join, written}
 use Rattle.schedule.proofs.Tests.{le-or-lt, same-test, or-left, or-right, or-split, says-and, says-lt, says-not, says-eq}
 use Rattle.schedule.proofs.Early.{exists-earliest}
-use Rattle.schedule.proofs.Made.{row-has-plan}
+use Rattle.schedule.proofs.Greedy.{row-has-plan}
 use Rattle.schedule.proofs.Chains.{reads-closed, reads-loopless}
-use Rattle.schedule.proofs.Same.{latest-any}
+use Rattle.schedule.proofs.Readings.{latest-any}
 use Rattle.sets.specs.Sets.{has, Without, Below}
 use Rattle.sets.proofs.Bits.{or-has, empty-has, digits-same}
 use Rattle.sets.proofs.Range.{below-in}

@@ -21,7 +21,7 @@ use Rattle.planner.proofs.Outcome.{sound-number, sound-some, sound-othe
 use Rattle.planner.specs.List.{first-of, second-of, pairs-of, list-of, Misshapen, job-at, order-at, rows-checks, list-checks, Judged, judged, TurnedDown, Fitted, Judges, AsRequests}
 use Rattle.planner.specs.Requests.{plan-check}
 use Rattle.planner.specs.Inner.List.{Held}
-use Rattle.schedule.proofs.Same.{holds-one}
+use Rattle.schedule.proofs.Readings.{holds-one}
 use Rattle.schedule.proofs.Onward.{holds-planned}
 use Rattle.planner.proofs.Growing.{size-is}
 use Rattle.planner.proofs.Pairs.{pairs-more, pairs-in}

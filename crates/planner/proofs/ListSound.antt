@@ -19,7 +19,7 @@ use Rattle.refusal.specs.Table.{Checks, places, Clear, Refuses, Table, refused,
 use Rattle.planner.specs.Requests.{plan-check}
 use Rattle.planner.specs.List.{list-of, job-at, order-at, rows-checks, SoundRows, Judged, judged, TurnedDown, Fitted, Judges}
 use Rattle.planner.specs.Inner.List.{Held, Spells, Settleable, Settles}
-use Rattle.schedule.proofs.Same.{reads-one, plan-one}
+use Rattle.schedule.proofs.Readings.{reads-one, plan-one}
 use Rattle.schedule.proofs.Onward.{holds-planned}
 use Rattle.refusal.specs.declared.Answer.{Answer}
 use Rattle.planner.specs.Inner.Numbers.{Numbers}

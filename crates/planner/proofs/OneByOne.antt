@@ -16,7 +16,7 @@ use Rattle.schedule.specs.Grow.{Extends}
 use Rattle.schedule.proofs.Tests.{le-by, lt-by}
 use Rattle.schedule.proofs.Chains.{jobs, jobs-reads}
 use Rattle.schedule.proofs.Grow.{plan-back}
-use Rattle.book.specs.Told.{Book, held}
+use Rattle.book.specs.Told.{Book, book-in}
 use Rattle.book.proofs.Empty.{told-nothing}
 use Rattle.planner.specs.declared.requests.Request.{Request}
 use Rattle.planner.specs.Requests.{Plannable, grow, Run, opened, asked}
@@ -85,7 +85,7 @@ module _ (starts deadlines pairs : List ℕ) (s : Sound starts deadlines pairs) 
   begun-more n l = λ i. record { starts = sym (take-suc starts n 0 l) i; deadlines = sym (take-suc deadlines n 0 (omega (arith, s .even))) i; orders = [] }
 
   run-jobs : (n : ℕ) → n ≤ length starts → (k : Book) × Run (begun n) k
-  run-jobs zero l = (held (replicate 129 0) (replicate 64 0), opened _ told-nothing)
+  run-jobs zero l = (book-in (replicate 129 0) (replicate 64 0), opened _ told-nothing)
   run-jobs (suc n) l =
       let k = run-jobs n (omega arith) in
       let t = run-told (begun n) (k .0) (k .1) in

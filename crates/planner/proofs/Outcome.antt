@@ -14,7 +14,7 @@ use Rattle.refusal.specs.Table.{One}
 use Rattle.refusal.proofs.Table.{Each, each-map, among-each, table-one, table-all}
 use Rattle.refusal.proofs.Says.{says-only, says-more}
 use Rattle.book.specs.Told.{Book, Told, Made}
-use Rattle.book.proofs.Same.{told-one}
+use Rattle.book.proofs.OneBook.{told-one}
 use Rattle.planner.specs.declared.requests.Request.{Request}
 use Rattle.planner.specs.declared.requests.Request.the-variants.{Job, Before, Earlier}
 use Rattle.planner.specs.Requests.{sound-checks, request-checks, accepts-with, grow, Applied, answered, Turned, Grown, Outcome, Outcomes, Applies, kept, Run, opened, asked}

@@ -12,8 +12,8 @@ use lib.Seq.{set-getD}
 use Rattle.schedule.specs.Listed.{Listed, with-job, with-order, with-deadline}
 use Rattle.schedule.proofs.Tests.{le-by}
 use Rattle.sets.specs.Sets.{has, With}
-use Rattle.book.specs.Told.{Book, part, held, Told}
-use Rattle.book.proofs.Parts.{part-at, part-in, part-out, held-long, held-size, with-size, with-latest}
+use Rattle.book.specs.Told.{Book, part, book-in, Told}
+use Rattle.book.proofs.Parts.{part-at, part-in, part-out, book-in-long, book-in-size, with-size, with-latest}
 use Rattle.planner.specs.declared.chains.Pending.{Pending}
 use Rattle.refusal.specs.Table.{Clear}
 use Rattle.planner.specs.Requests.{times-checks, answered}
@@ -41,12 +41,12 @@ module _ (L : Listed) (size : ℕ) (times before : List ℕ) (p : Pending) (job 
     posed-none b n s = none-last L k _ value (x .row) fits g (x .tight) b s n
 
 -- ---- the three requests, of a book of n jobs
-module _ (L : Listed) (times before : List ℕ) (t : Told (held times before) L) where
+module _ (L : Listed) (times before : List ℕ) (t : Told (book-in times before) L) where
   abbrev k : Book
-  k = held times before
+  k = book-in times before
 
   long : 129 ≤ length times
-  long = held-long times before (t .shaped)
+  long = book-in-long times before (t .shaped)
 
   nothing-waits : (p : Pending) → p ≡ nothing → joined-rows before p ≡ before
   nothing-waits p e = ap (joined-rows before) e ∙ rows-same before (t .shaped .befores)
@@ -66,21 +66,21 @@ module _ (L : Listed) (times before : List ℕ) (t : Told (held times before) L)
     job-ready = posed-ready (with-job L s d) (n + 1) begun before p n d job-posed begun-long room (nothing-low p e)
 
     module _ (after : List ℕ) (fits : Bool) (x : Settles (n + 1) begun before p n d after fits) where
-      kept : fits ≡ true → held (set after 0 (n + 1)) before ≡ with-latest (posed (n + 1) begun before p n d) (x .row)
+      kept : fits ≡ true → book-in (set after 0 (n + 1)) before ≡ with-latest (posed (n + 1) begun before p n d) (x .row)
       kept y =
           let keeps = x .kept y in
-          held-size after before (omega (arith, keeps .same-length, begun-long)) (n + 1) ∙ ap (λ (b : Book). with-size b (n + 1)) (keeps .book before)
+          book-in-size after before (omega (arith, keeps .same-length, begun-long)) (n + 1) ∙ ap (λ (b : Book). with-size b (n + 1)) (keeps .book before)
           ∙ ap (λ (rows : List ℕ). record { size = n + 1; start = part 1 begun; latest = x .row; before = rows }) (sym (nothing-waits p e))
 
-      pub job-fits : fits ≡ true → Last (with-job L s d) (length (L .starts)) k (answered (held (set after 0 (n + 1)) before) 0 n)
+      pub job-fits : fits ≡ true → Last (with-job L s d) (length (L .starts)) k (answered (book-in (set after 0 (n + 1)) before) 0 n)
       job-fits y = posed-fits _ _ _ _ _ _ _ job-posed k _ after fits x _ n y (kept y) (size ∙ size-is L k t)
 
       -- nothing stood beyond the jobs held
-      pub job-none : fits ≡ false → Last (with-job L s d) (length (L .starts)) k (answered (held (set after (1 + n) 0) before) 4 0)
+      pub job-none : fits ≡ false → Last (with-job L s d) (length (L .starts)) k (answered (book-in (set after (1 + n) 0) before) 4 0)
       job-none y =
           let free : getD times (1 + n) 0 ≡ 0 = sym (part-at 1 times n room) ∙ t .shaped .start-rest n (omega (arith, size)) in
           let back : set after (1 + n) 0 ≡ times = ap (λ (l : List ℕ). set l (1 + n) 0) (x .left y) ∙ ap (set begun (1 + n)) (sym free) ∙ set-back times (1 + n) s in
-          posed-none _ _ _ _ _ _ _ job-posed k _ after fits x _ y (ap (λ (l : List ℕ). held l before) back)
+          posed-none _ _ _ _ _ _ _ job-posed k _ after fits x _ y (ap (λ (l : List ℕ). book-in l before) back)
 
   -- what changes the latest times alone
   module _ (M : Listed) (p : Pending) (j d n : ℕ) (size : n ≡ k .size) (below : j < 64) (waits : p .job .0 < 64) (g : Grows M (posed n times before p j d)) where
@@ -88,12 +88,12 @@ module _ (L : Listed) (times before : List ℕ) (t : Told (held times before) L)
     times-ready = posed-ready M n times before p j d g long below waits
 
     module _ (after : List ℕ) (fits : Bool) (x : Settles n times before p j d after fits) where
-      pub times-fit : (rows : List ℕ) → rows ≡ joined-rows before p → fits ≡ true → Last M 0 k (answered (held after rows) 0 0)
-      times-fit rows r y = posed-fits M n times before p j d g k 0 after fits x (held after rows) 0 y
+      pub times-fit : (rows : List ℕ) → rows ≡ joined-rows before p → fits ≡ true → Last M 0 k (answered (book-in after rows) 0 0)
+      times-fit rows r y = posed-fits M n times before p j d g k 0 after fits x (book-in after rows) 0 y
           (rw (r, size) (x .kept y .book (joined-rows before p))) refl
 
-      pub times-none : fits ≡ false → Last M 0 k (answered (held after before) 4 0)
-      times-none y = posed-none M n times before p j d g k 0 after fits x (held after before) y (ap (λ (l : List ℕ). held l before) (x .left y))
+      pub times-none : fits ≡ false → Last M 0 k (answered (book-in after before) 4 0)
+      times-none y = posed-none M n times before p j d g k 0 after fits x (book-in after before) y (ap (λ (l : List ℕ). book-in l before) (x .left y))
 
   -- an order of two jobs
   pub order-posed : (a : ℕ) (p : Pending) (n : ℕ) → n ≡ k .size → a < n → p .job .0 < n → With (getD before a 0) a (p .more) → (a ≡ p .job .0 → ⊥) →

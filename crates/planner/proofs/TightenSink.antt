@@ -28,7 +28,7 @@ use Rattle.planner.specs.Inner.Tighten.{Tightens, Fell, Moves, AtD, Swep
 use Rattle.planner.specs.Inner.Tighten.Sink.{Eased, Sunk}
 use Rattle.planner.specs.Inner.Tighten.Rule.{DueBy, Obeys, Ruled}
 use Rattle.sets.proofs.Bits.{and-has, has-some, walk-split}
-use Rattle.schedule.proofs.Same.{latest-any}
+use Rattle.schedule.proofs.Readings.{latest-any}
 use Rattle.planner.proofs.TightenDue.{DueBelow}
 use Rattle.planner.proofs.TightenLower.{bound-join, bound-same, bound-none}
 

@@ -11,7 +11,7 @@ use Rattle.schedule.proofs.Onward.{holds-planned}
 use Rattle.planner.specs.declared.requests.Request.the-variants.{Before, Earlier}
 use Rattle.book.specs.Told.{Book, jobs-of, latest-of, Told}
 use Rattle.planner.specs.Requests.{Applied, answered, Applies}
-use Rattle.book.proofs.Same.{told-one}
+use Rattle.book.proofs.OneBook.{told-one}
 use Rattle.planner.proofs.Growing.{Last, size-is, order-held, followed-told, kept-told}
 use Rattle.planner.proofs.Orders.{loop-none}
 use Rattle.refusal.proofs.Table.{table-free, table-rest}

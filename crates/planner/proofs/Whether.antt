@@ -8,7 +8,7 @@ use native.Mathlib.Omega.{arith}
 use lib.Dec.{T, eqb, eqb→eq}
 use lib.ListN.{getD, replicate}
 use Rattle.schedule.proofs.Tests.{eq→eqb}
-use Rattle.book.specs.Told.{held, nothing-listed, Made}
+use Rattle.book.specs.Told.{book-in, nothing-listed, Made}
 use Rattle.book.proofs.Empty.{told-nothing}
 use Rattle.planner.specs.Memory.{Whether}
 use Rattle.planner.proofs.Growing.{true-T, false-T}
@@ -33,8 +33,8 @@ whether-only P false true v w = absurd (v .no refl (w .yes refl))
 whether-only P false false v w = refl
 
 -- an answer of yes to everything is shut out, and so is an answer of no
-pub whether-too-many : (times before : List ℕ) (r : Bool) → 64 < getD times 0 0 → Whether (Made (held times before)) r → r ≡ false
+pub whether-too-many : (times before : List ℕ) (r : Bool) → 64 < getD times 0 0 → Whether (Made (book-in times before)) r → r ≡ false
 whether-too-many times before r l w = whether-only _ r false w (whether-no (λ m. omega (arith, m .1 .shaped .few)))
 
-pub whether-empty : (r : Bool) → Whether (Made (held (replicate 129 0) (replicate 64 0))) r → r ≡ true
+pub whether-empty : (r : Bool) → Whether (Made (book-in (replicate 129 0) (replicate 64 0))) r → r ≡ true
 whether-empty r w = whether-only _ r true w (whether-yes (nothing-listed, told-nothing))

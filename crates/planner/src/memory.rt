@@ -9,14 +9,14 @@ use schedule::JobIndex;
 ghost use mathlib.Core.Path.{_≡_};
 ghost use Prim.Native.Nat.{ℕ, _+_, _≤_, _<_};
 ghost use lib.ListN.{length};
-ghost use Rattle.book.specs.Told.{Made, part, held};
+ghost use Rattle.book.specs.Told.{Made, part, book-in};
 ghost use Rattle.planner.specs.Memory.{Whether};
 ghost use Rattle.planner.specs.Inner.Memory.{Limits, Sub, ChainedAt, Steady};
 ghost use Rattle.planner.specs.Inner.Tighten.{Tightenable};
 
 // Of any memory at all: true exactly where the book in it was made by requests.
 pub fn is_book(times: &Times, before: &Before) -> bool
-    ensures { λ r. ⌜ Whether (Made (held (now (times .entry)) (now (before .entry)))) r ⌝ }
+    ensures { λ r. ⌜ Whether (Made (book-in (now (times .entry)) (now (before .entry)))) r ⌝ }
 {
     let size = wide(times[0]);
     if size > 64 {

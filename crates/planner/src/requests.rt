@@ -10,7 +10,7 @@ use book::Times;
 use refusal::Answer;
 use schedule::JobIndex;
 ghost use Rattle.refusal.specs.Says.{Says};
-ghost use Rattle.book.specs.Told.{Made, held};
+ghost use Rattle.book.specs.Told.{Made, book-in};
 ghost use Rattle.planner.specs.Requests.{Outcomes, Applies, answered};
 ghost use Rattle.planner.specs.Inner.Requests.{Settleable, Settles};
 
@@ -25,8 +25,8 @@ pub enum Request {
 
 // The one entry for requests: the book lies in lent memory, and is changed in its place.
 pub fn apply(times: &mut Times, before: &mut Before, request: Request) -> Answer
-    requires { ⌜ Made (held (now times) (now before)) ⌝ }
-    ensures { λ r. ⌜ Says r (λ n v. Applies (held (now (times .entry)) (now (before .entry))) request (answered (held (now (times .exit)) (now (before .exit))) n v)) ⌝ }
+    requires { ⌜ Made (book-in (now times) (now before)) ⌝ }
+    ensures { λ r. ⌜ Says r (λ n v. Applies (book-in (now (times .entry)) (now (before .entry))) request (answered (book-in (now (times .exit)) (now (before .exit))) n v)) ⌝ }
 {
     match request {
         Request::Job(start, deadline) => add_job(times, before, start, deadline),
@@ -36,8 +36,8 @@ pub fn apply(times: &mut Times, before: &mut Before, request: Request) -> Answer
 }
 
 fn add_job(times: &mut Times, before: &Before, start: u16, deadline: u16) -> Answer
-    requires { ⌜ Made (held (now times) (now before)) ⌝ }
-    ensures { λ r. ⌜ Says r (λ n v. Outcomes (held (now (times .entry)) (now (before .entry))) (Request.Job start deadline) (answered (held (now (times .exit)) (now (before .entry))) n v)) ⌝ }
+    requires { ⌜ Made (book-in (now times) (now before)) ⌝ }
+    ensures { λ r. ⌜ Says r (λ n v. Outcomes (book-in (now (times .entry)) (now (before .entry))) (Request.Job start deadline) (answered (book-in (now (times .exit)) (now (before .entry))) n v)) ⌝ }
 {
     let new = wide(times[0]);
     if new >= 64 {
@@ -65,8 +65,8 @@ fn add_job(times: &mut Times, before: &Before, start: u16, deadline: u16) -> Ans
 }
 
 fn add_order(times: &mut Times, before: &mut Before, first: JobIndex, second: JobIndex) -> Answer
-    requires { ⌜ Made (held (now times) (now before)) ⌝ }
-    ensures { λ r. ⌜ Says r (λ n v. Outcomes (held (now (times .entry)) (now (before .entry))) (Request.Before first second) (answered (held (now (times .exit)) (now (before .exit))) n v)) ⌝ }
+    requires { ⌜ Made (book-in (now times) (now before)) ⌝ }
+    ensures { λ r. ⌜ Says r (λ n v. Outcomes (book-in (now (times .entry)) (now (before .entry))) (Request.Before first second) (answered (book-in (now (times .exit)) (now (before .exit))) n v)) ⌝ }
 {
     let size = wide(times[0]);
     let a = first.0;
@@ -99,8 +99,8 @@ fn add_order(times: &mut Times, before: &mut Before, first: JobIndex, second: Jo
 }
 
 fn draw_in(times: &mut Times, before: &Before, job: JobIndex, deadline: u16) -> Answer
-    requires { ⌜ Made (held (now times) (now before)) ⌝ }
-    ensures { λ r. ⌜ Says r (λ n v. Outcomes (held (now (times .entry)) (now (before .entry))) (Request.Earlier job deadline) (answered (held (now (times .exit)) (now (before .entry))) n v)) ⌝ }
+    requires { ⌜ Made (book-in (now times) (now before)) ⌝ }
+    ensures { λ r. ⌜ Says r (λ n v. Outcomes (book-in (now (times .entry)) (now (before .entry))) (Request.Earlier job deadline) (answered (book-in (now (times .exit)) (now (before .entry))) n v)) ⌝ }
 {
     let size = wide(times[0]);
     let j = job.0;

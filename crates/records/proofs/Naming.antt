@@ -15,10 +15,10 @@ use Rattle.records.specs.declared.Record.the-variants.{Job, Order, Deadl
 use Rattle.records.specs.declared.Found.the-variants as found
 use Rattle.records.specs.Record.{JB, OR, TG, word-at}
 use Rattle.records.specs.Find.{Stops, Shows, mark-check, record-named}
-use Rattle.records.proofs.Standing.{mark-of, first-of, second-of, stands-by, stands-marked}
+use Rattle.records.proofs.Standing.{mark-of, first-field, second-field, stands-by, stands-marked}
 
 -- a record by its own mark and fields
-pub named-self : (r : Record) (value : ℕ) → record-named (mark-of r) (first-of r) (second-of r) value ≡ found.Record r
+pub named-self : (r : Record) (value : ℕ) → record-named (mark-of r) (first-field r) (second-field r) value ≡ found.Record r
 named-self (Job a b) value = refl
 named-self (Order a b) value = refl
 named-self (Deadline a b) value = refl
@@ -34,7 +34,7 @@ module _ (file : List ℕ) (at : ℕ) (whole : at + 6 ≤ length file) (small : 
   abbrev b : ℕ
   b = word-at file (at + 4)
 
-  stands : (r : Record) → m ≡ mark-of r → a ≡ first-of r → b ≡ second-of r → Table (mark-check file at) Stops (Shows file at) (found.Record r)
+  stands : (r : Record) → m ≡ mark-of r → a ≡ first-field r → b ≡ second-field r → Table (mark-check file at) Stops (Shows file at) (found.Record r)
   stands r e f g = let x = stands-by file at r whole small e f g in passed (λ none. none (stands-marked file at r x)) x
 
   pub named-at : Table (mark-check file at) Stops (Shows file at) (record-named m a b at)

@@ -34,27 +34,27 @@ mark-of (Job a b) = JB
 mark-of (Order a b) = OR
 mark-of (Deadline a b) = TG
 
-abbrev pub first-of : Record → ℕ
-first-of (Job a b) = a
-first-of (Order a b) = a
-first-of (Deadline a b) = a
+abbrev pub first-field : Record → ℕ
+first-field (Job a b) = a
+first-field (Order a b) = a
+first-field (Deadline a b) = a
 
-abbrev pub second-of : Record → ℕ
-second-of (Job a b) = b
-second-of (Order a b) = b
-second-of (Deadline a b) = b
+abbrev pub second-field : Record → ℕ
+second-field (Job a b) = b
+second-field (Order a b) = b
+second-field (Deadline a b) = b
 
-bytes-are : (r : Record) → bytes-of r ≡ record-of (mark-of r) (first-of r) (second-of r)
+bytes-are : (r : Record) → bytes-of r ≡ record-of (mark-of r) (first-field r) (second-field r)
 bytes-are (Job a b) = refl
 bytes-are (Order a b) = refl
 bytes-are (Deadline a b) = refl
 
 -- the words that bytes of a record spell
-words-of : (r : Record) → (word-at (bytes-of r) 0 ≡ mark-of r) × (word-at (bytes-of r) 2 ≡ first-of r) × (word-at (bytes-of r) 4 ≡ second-of r)
-words-of r = rw (bytes-are r) (word-back (mark-of r), word-back (first-of r), word-back (second-of r))
+words-of : (r : Record) → (word-at (bytes-of r) 0 ≡ mark-of r) × (word-at (bytes-of r) 2 ≡ first-field r) × (word-at (bytes-of r) 4 ≡ second-field r)
+words-of r = rw (bytes-are r) (word-back (mark-of r), word-back (first-field r), word-back (second-field r))
 
 -- one record by its mark and fields
-by-words : (r s : Record) → mark-of r ≡ mark-of s → first-of r ≡ first-of s → second-of r ≡ second-of s → r ≡ s
+by-words : (r s : Record) → mark-of r ≡ mark-of s → first-field r ≡ first-field s → second-field r ≡ second-field s → r ≡ s
 by-words (Job a b) (Job c d) e f g = rw (f, g)
 by-words (Job a b) (Order c d) e f g = absurd (omega arith)
 by-words (Job a b) (Deadline c d) e f g = absurd (omega arith)
@@ -90,7 +90,7 @@ module _ (file : List ℕ) (at : ℕ) where
   taken n i h = getD-take n (drop at file) i 0 h ∙ getD-drop at file i 0
 
   -- its fields are 16-bit numbers
-  pub stands-fields : (r : Record) → ((i : ℕ) → getD file i 0 < 256) → Stands file at r → (first-of r < 65536) × (second-of r < 65536)
+  pub stands-fields : (r : Record) → ((i : ℕ) → getD file i 0 < 256) → Stands file at r → (first-field r < 65536) × (second-field r < 65536)
   unfolding Stands
   stands-fields r small x =
       let e = rw (length-six r) at x ∙ bytes-are r in
@@ -121,7 +121,7 @@ two-bytes file at k h small =
     rw (high, low, third, second, drop-cons file at 0, drop-cons file (suc at) 0)
 
 pub stands-by : (file : List ℕ) (at : ℕ) (r : Record) → at + 6 ≤ length file → ((i : ℕ) → getD file i 0 < 256) →
-    word-at file at ≡ mark-of r → word-at file (at + 2) ≡ first-of r → word-at file (at + 4) ≡ second-of r → Stands file at r
+    word-at file at ≡ mark-of r → word-at file (at + 2) ≡ first-field r → word-at file (at + 4) ≡ second-field r → Stands file at r
 unfolding Stands
 stands-by file at r h small e f g =
     let four : at + 2 + 2 ≡ at + 4 = omega arith in

@@ -20,9 +20,9 @@ use Rattle.book.specs.Told.{Book, Made}
 use Rattle.book.proofs.Empty.{zeros}
 use Rattle.jobfile.specs.declared.reader.Event.{Event}
 use Rattle.jobfile.specs.declared.reader.Event.the-variants as event
-use Rattle.jobfile.specs.Reader.{Step, Tells, asks}
+use Rattle.jobfile.specs.Reader.{AfterRead, Tells, asks}
 use Rattle.jobfile.specs.File.{SingleReads, last, more}
-use Rattle.jobfile.proofs.Reading.{step-answers, step-stays, step-within}
+use Rattle.jobfile.proofs.Reading.{read-answers, read-stays, read-within}
 use Rattle.text.specs.Text.{each}
 use Rattle.text.specs.Put.{Puts}
 use Rattle.report.specs.Line.{refused-line, stopped-line}
@@ -42,10 +42,10 @@ module _ (file : List ℕ) (fits : length file ≤ 24576) where
   halted at n v h (inr (c, inr (d, inl x))) = record { no-nine = λ e. omega (arith, x .1); small = omega (arith, x .1); low = omega (arith, x .2) }
   halted at n v h (inr (c, inr (d, inr (f, x)))) = record { no-nine = λ e. omega (arith, x .1); small = omega (arith, x .1); low = omega (arith, x .2) }
 
-  pub ending : (k : Book) (at : ℕ) (numbers : List ℕ) (r : Step) → Made k → at ≤ 24576 → SingleReads file k at numbers r → Ending (r .number) (r .value)
-  ending k at numbers r m h (last x f) = halted at _ _ h (step-stays k file at r x m f .1)
+  pub ending : (k : Book) (at : ℕ) (numbers : List ℕ) (r : AfterRead) → Made k → at ≤ 24576 → SingleReads file k at numbers r → Ending (r .number) (r .value)
+  ending k at numbers r m h (last x f) = halted at _ _ h (read-stays k file at r x m f .1)
   ending k at numbers r m h (more {numbers = others} t x f p) =
-      let i = step-within k file at t x f in
+      let i = read-within k file at t x f in
       ending (t .book) (t .at) others r (x .made) (omega arith) p
 
 -- the line by the event is that by its number and value
@@ -77,9 +77,9 @@ stop-put (event.Stopped n v) at old new next x p = (x .0, rw (some (eqb n 9) (eq
 applied-small : (k : Book) (q : Request) (r : Applied) → Made k → Applies k q r → r .number < 1000
 applied-small = applied-number (λ n. n < 1000) (omega arith) (omega arith) (λ n t. omega (arith, sound-few n t))
 
-pub numbers-small : (file : List ℕ) (k : Book) (at : ℕ) (numbers : List ℕ) (r : Step) → Made k → SingleReads file k at numbers r → (i : ℕ) → getD numbers i 0 < 1000
+pub numbers-small : (file : List ℕ) (k : Book) (at : ℕ) (numbers : List ℕ) (r : AfterRead) → Made k → SingleReads file k at numbers r → (i : ℕ) → getD numbers i 0 < 1000
 numbers-small file k at numbers r m (last x f) i = omega arith
-numbers-small file k at numbers r m (more t x f p) zero = let a = step-answers k file at t x f .1 in applied-small k (asks (a .told)) _ m (a .applies)
+numbers-small file k at numbers r m (more t x f p) zero = let a = read-answers k file at t x f .1 in applied-small k (asks (a .stood)) _ m (a .applies)
 numbers-small file k at numbers r m (more {numbers = others} t x f p) (suc i) = numbers-small file (t .book) (t .at) others r (x .made) p i
 
 -- what gives no text adds nothing

@@ -16,7 +16,7 @@ use Rattle.refusal.specs.Table.{passed as granted}
 use Rattle.refusal.specs.Says.{Says, value-of}
 use Rattle.refusal.proofs.Table.{table-free}
 use Rattle.refusal.proofs.Says.{says-told}
-use Rattle.book.specs.Told.{cores, Book, part, held, jobs-of, latest-of, Made}
+use Rattle.book.specs.Told.{cores, Book, part, book-in, jobs-of, latest-of, Made}
 use Rattle.plan.specs.Plan.{horizon, unplaced, plan-of, finish-of, bytes-of, Plans}
 use Rattle.plan.specs.Place.{core-of}
 use Rattle.plan.proofs.BookPlan.{book-plan, finish-fits}
@@ -112,20 +112,20 @@ module _ (k : Book) (m : Made k) where
         rw here at e ∙ omega (arith, shown .each i h .0)
 
 -- the lines by the rows are those of the book
-module _ (times before : List ℕ) (m : Made (held times before)) where
-  pub in-time : InTime times (bytes-of (held times before))
+module _ (times before : List ℕ) (m : Made (book-in times before)) where
+  pub in-time : InTime times (bytes-of (book-in times before))
   in-time = record {
-    short = omega (arith, long (held times before) m, finish-fits (held times before) m);
+    short = omega (arith, long (book-in times before) m, finish-fits (book-in times before) m);
     timed = λ i h. record {
       few = omega (arith, m .1 .shaped .few);
       starts = m .1 .shaped .starts;
       latests = m .1 .shaped .latests;
-      in-time = omega (arith, end-at (held times before) m i h, book-plan (held times before) m .meets .ends i h);
+      in-time = omega (arith, end-at (book-in times before) m i h, book-plan (book-in times before) m .meets .ends i h);
     };
   }
 
-  pub job-lines-by : each (getD times 0 0) (row-text times (ends-in (bytes-of (held times before)))) ≡ job-lines (held times before)
-  job-lines-by = each-same (getD times 0 0) _ _ (λ i h. ap (λ e. job-line i (getD (part 1 times) i 0) (getD (part 65 times) i 0) e (getD (part 65 times) i 0 - e)) (end-at (held times before) m i h))
+  pub job-lines-by : each (getD times 0 0) (row-text times (ends-in (bytes-of (book-in times before)))) ≡ job-lines (book-in times before)
+  job-lines-by = each-same (getD times 0 0) _ _ (λ i h. ap (λ e. job-line i (getD (part 1 times) i 0) (getD (part 65 times) i 0) e (getD (part 65 times) i 0 - e)) (end-at (book-in times before) m i h))
 
 -- ---- the plan as the call hands it out: in the front of more bytes than it takes
 pub record Handed (k : Book) (finish : ℕ) (bytes : List ℕ) : Type 0 where

@@ -7,7 +7,7 @@ pub mod Ended
 -- how long a listing can be, and that it fits the bytes lent
 pub mod Short
 -- the parts one behind the other
-pub mod Whole
+pub mod Assembled
 -- no second outcome
 pub mod Only
 -- 01's example

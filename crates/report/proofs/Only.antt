@@ -7,8 +7,8 @@ use lib.ListN.{length, drop}
 use Rattle.refusal.specs.Table.{One}
 use Rattle.refusal.proofs.Table.{table-one}
 use Rattle.book.specs.Told.{Book, nothing-listed}
-use Rattle.book.proofs.Same.{told-one}
-use Rattle.jobfile.specs.Reader.{Step}
+use Rattle.book.proofs.OneBook.{told-one}
+use Rattle.jobfile.specs.Reader.{AfterRead}
 use Rattle.jobfile.specs.File.{SingleReads}
 use Rattle.jobfile.proofs.Single.{single-reads-one}
 use Rattle.report.specs.Listing.{refused-lines, stop-line, book-lines, Prints, Listing, Lists}
@@ -18,7 +18,7 @@ prints-one file a b x y =
     let same : y .opened ≡ x .opened = told-one _ _ _ (y .empty) (x .empty) in
     let p = single-reads-one file (x .opened) 0 (x .numbers) (y .numbers) (x .last) (y .last) (nothing-listed, x .empty) (x .reads)
     (subst (λ (k : Book). SingleReads file k 0 (y .numbers) (y .last)) same (y .reads)) in
-    x .told ∙ ap₂ (λ (n : List ℕ) (r : Step). refused-lines n ++ stop-line (r .number) (r .value) ++ book-lines (r .book)) (p .0) (p .1) ∙ sym (y .told)
+    x .printed ∙ ap₂ (λ (n : List ℕ) (r : AfterRead). refused-lines n ++ stop-line (r .number) (r .value) ++ book-lines (r .book)) (p .0) (p .1) ∙ sym (y .printed)
 
 pub listing-one : (file : List ℕ) → One (Listing file)
 listing-one file = table-one _ _ _ (λ n v a b p q. p ∙ sym q) (prints-one file)

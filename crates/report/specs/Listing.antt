@@ -10,7 +10,7 @@ use Rattle.refusal.specs.Table.{Table, check}
 use Rattle.book.specs.Told.{Book, Told, latest-of, nothing-listed}
 use Rattle.plan.specs.Plan.{finish-of, bytes-of}
 use Rattle.plan.specs.Place.{place-of}
-use Rattle.jobfile.specs.Reader.{Step}
+use Rattle.jobfile.specs.Reader.{AfterRead}
 use Rattle.jobfile.specs.File.{SingleReads}
 use Rattle.text.specs.Text.{each}
 use Rattle.report.specs.Line.{refused-line, stopped-line, too-long-line, jobs-line, slot-line, job-line}
@@ -43,9 +43,9 @@ pub record Prints (file text : List ℕ) : Type 0 where
   pub opened : Book
   pub empty : Told opened nothing-listed
   pub numbers : List ℕ
-  pub last : Step
+  pub last : AfterRead
   pub reads : SingleReads file opened 0 numbers last
-  pub told : text ≡ refused-lines numbers ++ stop-line (last .number) (last .value) ++ book-lines (last .book)
+  pub printed : text ≡ refused-lines numbers ++ stop-line (last .number) (last .value) ++ book-lines (last .book)
 
 -- the listing's text: "9 prints `file refused 9` alone"
 abbrev pub Listing : List ℕ → List ℕ → Type 0

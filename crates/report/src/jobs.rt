@@ -13,7 +13,7 @@ ghost use Rattle.text.specs.Put.{Puts};
 ghost use Rattle.report.specs.Inner.Ends.{passed, ends-in, row-text, Timed, InTime};
 
 // How many jobs there are.
-pub fn held(times: &Times) -> usize
+pub fn job_count(times: &Times) -> usize
     ensures { λ r. ⌜ r ≡ getD (now (times .entry)) 0 0 ⌝ }
 {
     wide(times[0])
@@ -25,7 +25,7 @@ pub fn lines(out: &mut [u8], at: usize, times: &Times, plan: &[u8]) -> usize
 {
     let mut ends = [0u16; 256];
     pass(plan, &mut ends);
-    let size = held(times);
+    let size = job_count(times);
     let mut next = at;
     for i in 0..size {
         next = job(out, next, times, &ends, JobIndex(i));

@@ -4,7 +4,7 @@ use crate::line;
 use book::Before;
 use book::Times;
 use schedule::SlotTime;
-ghost use Rattle.book.specs.Told.{Made, held};
+ghost use Rattle.book.specs.Told.{Made, book-in};
 ghost use Rattle.text.specs.Put.{Puts};
 ghost use Rattle.report.specs.Listing.{refused-lines, slot-lines, book-lines};
 
@@ -21,12 +21,12 @@ pub fn refused(out: &mut [u8], at: usize, numbers: &[u8]) -> usize
 
 // Jobs held and finishing time, the slots of the plan, the jobs: the plan is laid out once.
 pub fn book(out: &mut [u8], at: usize, times: &Times, before: &Before) -> usize
-    requires { ⌜ Made (held (now times) (now before)) ⌝ }
-    ensures { λ r. ⌜ Puts (book-lines (held (now (times .entry)) (now (before .entry)))) at (now (out .entry)) (now (out .exit)) r ⌝ }
+    requires { ⌜ Made (book-in (now times) (now before)) ⌝ }
+    ensures { λ r. ⌜ Puts (book-lines (book-in (now (times .entry)) (now (before .entry)))) at (now (out .entry)) (now (out .exit)) r ⌝ }
 {
     let mut bytes = [0u8; 8192];
     let finish = refusal::value(plan::plan(times, before, &mut bytes));
-    let headed = line::jobs(out, at, jobs::held(times), SlotTime(finish));
+    let headed = line::jobs(out, at, jobs::job_count(times), SlotTime(finish));
     let needed = 2 * finish;
     let laid = &bytes[..needed];
     let next = slots(out, headed, laid);

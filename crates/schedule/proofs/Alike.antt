@@ -32,10 +32,10 @@ abbrev Each : ℕ → ℕ → ℕ → (ℕ → ℕ) → (ℕ → ℕ) → Type 0
 Each n far far′ slot slot′ = (i : ℕ) → i < n → Alike far far′ (slot i) (slot′ i)
 
 -- one and the same jobs
-abbrev pub Same : Jobs → Jobs → Type 0
-Same J K = Renumbered J K (λ i. i) (λ i. i)
+abbrev pub SameJobs : Jobs → Jobs → Type 0
+SameJobs J K = Renumbered J K (λ i. i) (λ i. i)
 
-module _ (J K : Jobs) (r : Same J K) (far far′ t : ℕ) (h : t ≤ far) (h′ : t ≤ far′) (slot slot′ : ℕ → ℕ) (a : Each (J .size) far far′ slot slot′) where
+module _ (J K : Jobs) (r : SameJobs J K) (far far′ t : ℕ) (h : t ≤ far) (h′ : t ≤ far′) (slot slot′ : ℕ → ℕ) (a : Each (J .size) far far′ slot slot′) where
   ready-alike : (i : ℕ) → i < J .size → T (ready J far t slot i) → T (ready K far′ t slot′ i)
   ready-alike i l x =
       let u = ready-read J far t slot i x in
@@ -53,7 +53,7 @@ module _ (J K : Jobs) (r : Same J K) (far far′ t : ℕ) (h : t ≤ far) (h′ 
       led b k (placed e u v) = omega arith
       led b k (waits e e′) = absurd (omega arith)
 
-module _ (J K : Jobs) (r : Same J K) (row row′ : ℕ → ℕ) (rows : Agree (J .size) row row′) (far far′ t : ℕ) (h : t ≤ far) (h′ : t ≤ far′) where
+module _ (J K : Jobs) (r : SameJobs J K) (row row′ : ℕ → ℕ) (rows : Agree (J .size) row row′) (far far′ t : ℕ) (h : t ≤ far) (h′ : t ≤ far′) where
   taken-alike : (slot slot′ : ℕ → ℕ) → Each (J .size) far far′ slot slot′ → taken J row far t slot ≡ taken K row′ far′ t slot′
   unfolding taken
   taken-alike slot slot′ a =
@@ -84,7 +84,7 @@ module _ (J K : Jobs) (r : Same J K) (row row′ : ℕ → ℕ) (rows : Agree (J
         let s′ : ℕ → ℕ = serve K row′ far′ t slot′ c in
         put-alike s s′ (taken J row far t s) (taken K row′ far′ t s′) (taken-alike s s′ (serve-alike slot slot′ a c)) i (serve-alike slot slot′ a c i l)
 
-module _ (J K : Jobs) (r : Same J K) (row row′ : ℕ → ℕ) (rows : Agree (J .size) row row′) (far far′ : ℕ) where
+module _ (J K : Jobs) (r : SameJobs J K) (row row′ : ℕ → ℕ) (rows : Agree (J .size) row row′) (far far′ : ℕ) where
   pub slots-alike : (m t : ℕ) → t ≤ far → t ≤ far′ → Each (J .size) far far′ (slots m J row far t) (slots m K row′ far′ t)
   unfolding slots
   slots-alike m zero h h′ i l = waits refl refl
@@ -109,7 +109,7 @@ module _ (J K : Jobs) (r : Same J K) (row row′ : ℕ → ℕ) (rows : Agree (J
       byte-same c = ap₂ (λ n x. cond (ltb x n) x 255) (sym (r .size)) (seat-alike 2 t c h h′)
 
 -- the same finishing time
-pub finish-same : (J K : Jobs) → Same J K → (slot slot′ : ℕ → ℕ) → Agree (J .size) slot slot′ → finish J slot ≡ finish K slot′
+pub finish-same : (J K : Jobs) → SameJobs J K → (slot slot′ : ℕ → ℕ) → Agree (J .size) slot slot′ → finish J slot ≡ finish K slot′
 unfolding finish
 finish-same J K r slot slot′ e =
     greatest-ext (J .size) (λ i. slot i + 1) (λ i. slot′ i + 1) (λ i l. ap (λ x. x + 1) (e i l)) ∙ ap (λ n. greatest n (λ i. slot′ i + 1)) (sym (r .size))

@@ -30,12 +30,12 @@ pub data Verdict (m : ℕ) (J : Jobs) (early due : ℕ → ℕ) : Type 0 where
   hopeless : Hopeless m J early due → Verdict m J early due
 
 -- a verdict, or a lower row
-data Step (m : ℕ) (J : Jobs) (early due row : ℕ → ℕ) : Type 0 where
-  done : Verdict m J early due → Step m J early due row
-  down : (low : ℕ → ℕ) → sum (J .size) low < sum (J .size) row → Bound m J early due low → Step m J early due row
+data Descent (m : ℕ) (J : Jobs) (early due row : ℕ → ℕ) : Type 0 where
+  done : Verdict m J early due → Descent m J early due row
+  down : (low : ℕ → ℕ) → sum (J .size) low < sum (J .size) row → Bound m J early due low → Descent m J early due row
 
 module _ (m : ℕ) (J : Jobs) (early due : ℕ → ℕ) (e : Earliest J early) (pos : 1 ≤ m) where
-  -- before any step
+  -- before any entry is lowered
   pub bound-start : Bound m J early due due
   bound-start = record { beneath = λ j l. omega arith; plans = λ slot v k. k; rows = λ low c x. x }
 
@@ -75,10 +75,10 @@ module _ (m : ℕ) (J : Jobs) (early due : ℕ → ℕ) (e : Earliest J early) (
     decBroken =
         decAny (J .size) AtS (λ i. decAny (suc (row i)) (AtD i) (λ s. decAny (suc (s + J .size)) (λ d. Breach m J early row i s d) (λ d. decBreach m J early row i s d)))
 
-    rules : Open J early row → Dec ((i : ℕ) × (i < J .size) × AtS i) → Step m J early due row
+    rules : Open J early row → Dec ((i : ℕ) × (i < J .size) × AtS i) → Descent m J early due row
     rules w (yes x) = broken (x .0) (x .2 .0) (x .2 .2 .0) (x .2 .2 .2)
       where
-        broken : (i s d : ℕ) → Breach m J early row i s d → Step m J early due row
+        broken : (i s d : ℕ) → Breach m J early row i s d → Descent m J early due row
         broken i s d h =
             let v : ℕ = left m J early row i s d in
             let x = w i (h .within .job) in
@@ -88,18 +88,18 @@ module _ (m : ℕ) (J : Jobs) (early due : ℕ → ℕ) (e : Earliest J early) (
         none : (i s d : ℕ) → Breach m J early row i s d → ⊥
         none i s d h = x (i, h .within .job, (s, suc-le-suc (h .within .till), (d, near i s d (h .full), h)))
 
-    step : Step m J early due row
-    step = windows (decAny (J .size) (λ i. row i < early i + 1) (λ i. decLt (row i) (early i + 1)))
+    descend : Descent m J early due row
+    descend = windows (decAny (J .size) (λ i. row i < early i + 1) (λ i. decLt (row i) (early i + 1)))
       where
-        windows : Dec ((i : ℕ) × (i < J .size) × (row i < early i + 1)) → Step m J early due row
+        windows : Dec ((i : ℕ) × (i < J .size) × (row i < early i + 1)) → Descent m J early due row
         windows (yes x) = done (hopeless (bound-shut (x .0) (x .1) (x .2)))
         windows (no x) = rules (λ i l. le-by (early i + 1) (row i) (λ h. x (i, l, h))) decBroken
 
   judge : (fuel : ℕ) (row : ℕ → ℕ) → sum (J .size) row < fuel → Bound m J early due row → Verdict m J early due
   judge zero row l b = absurd (not-suc-le-zero l)
-  judge (suc fuel) row l b = go (step row b) (judge fuel)
+  judge (suc fuel) row l b = go (descend row b) (judge fuel)
     where
-      go : Step m J early due row → ((low : ℕ → ℕ) → sum (J .size) low < fuel → Bound m J early due low → Verdict m J early due) → Verdict m J early due
+      go : Descent m J early due row → ((low : ℕ → ℕ) → sum (J .size) low < fuel → Bound m J early due low → Verdict m J early due) → Verdict m J early due
       go (done x) rest = x
       go (down low h c) rest = rest low (omega arith) c
 

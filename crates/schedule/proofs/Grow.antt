@@ -18,7 +18,7 @@ use Rattle.schedule.proofs.Press.{N-mono}
 use Rattle.schedule.proofs.Round.{ruled, undivided}
 use Rattle.schedule.proofs.Sound.{valid-above, rule-sound}
 use Rattle.schedule.proofs.Exist.{plan-meets}
-use Rattle.schedule.proofs.Made.{row-has-plan}
+use Rattle.schedule.proofs.Greedy.{row-has-plan}
 
 -- ---- the three kinds of growth
 pub extends-self : (J : Jobs) → Extends J J

@@ -13,7 +13,7 @@ use Rattle.schedule.specs.Listed.{Listed, Looped, Reads, written, with-j
 use Rattle.schedule.specs.Grow.{Added, Linked}
 use Rattle.schedule.specs.Book.{Holds}
 use Rattle.schedule.proofs.Early.{exists-earliest}
-use Rattle.schedule.proofs.Made.{row-has-plan}
+use Rattle.schedule.proofs.Greedy.{row-has-plan}
 use Rattle.schedule.proofs.Chains.{reads-closed, reads-loopless, added-reads, linked-reads, order-loopless, job-written, deadline-written}
 use Rattle.schedule.proofs.Theorem.{resume-new-job, resume-new-order, resume-earlier-deadline}
 use Rattle.schedule.proofs.Book.{holds-job, holds-order, holds-deadline}

@@ -16,7 +16,7 @@ use Rattle.schedule.proofs.Rows.{greatest-bound, greatest-some}
 use Rattle.schedule.proofs.Early.{exists-earliest, earliest-one}
 use Rattle.schedule.proofs.Exist.{Verdict, latest, hopeless, verdict, plan-has-latest, latest-one}
 use Rattle.schedule.proofs.Few.{Few, breach-few}
-use Rattle.schedule.proofs.Made.{made-valid, made-meets, made-in-time, row-has-plan}
+use Rattle.schedule.proofs.Greedy.{made-valid, made-meets, made-in-time, row-has-plan}
 use Rattle.schedule.proofs.Seats.{placed-seat, placed-settled}
 use Rattle.schedule.proofs.Chains.{reads-closed, reads-loopless, jobs, jobs-reads}
 use Rattle.schedule.proofs.Grow.{Drawn, extends-self, added-extends, linked-extends, times-drawn, put-drawn, put-sooner, same-plans, resume, latest-falls}
@@ -53,7 +53,7 @@ row-iff-plan m J early due pos two closed e = (to, from)
         (x .0, x .1 .consistent, x .1 .beneath)
 
 -- (iii) what holds of the plan made from the latest times, in `end` slots
-pub record Made (m : ℕ) (J : Jobs) (due row : ℕ → ℕ) (far end : ℕ) (slot : ℕ → ℕ) : Type 0 where
+pub record PlanMade (m : ℕ) (J : Jobs) (due row : ℕ → ℕ) (far end : ℕ) (slot : ℕ → ℕ) : Type 0 where
   pub valid : Valid m J slot
   pub meets : Meets J due slot
   pub placed : (i : ℕ) → i < J .size → (slot i < end) × ((c : ℕ) × (c < m) × (seat m J row far (slot i) c ≡ i))
@@ -62,7 +62,7 @@ pub record Made (m : ℕ) (J : Jobs) (due row : ℕ → ℕ) (far end : ℕ) (sl
   pub settled : (t i : ℕ) → i < J .size → finish J slot ≤ t → slots m J row far t i ≡ slot i
 
 pub plan-made : (m : ℕ) (J : Jobs) (early due row : ℕ → ℕ) (far end : ℕ) → 1 ≤ m → m ≤ 2 → Closed J → Earliest J early → Latest m J early due row →
-    greatest (J .size) row ≤ end → end ≤ far → Made m J due row far end (slots m J row far end)
+    greatest (J .size) row ≤ end → end ≤ far → PlanMade m J due row far end (slots m J row far end)
 unfolding finish
 plan-made m J early due row far end pos two closed e a top fits = record {
   valid = made-valid m J early row far end pos two closed e (a .consistent) fits high;

@@ -11,8 +11,8 @@ use Rattle.keying.specs.declared.entry.Slip.the-variants.{UnknownWord, M
 use Rattle.keying.specs.declared.entry.Taken.{Taken}
 use Rattle.keying.specs.declared.entry.Taken.the-variants as taken
 use Rattle.keying.specs.declared.reader.Reader.{Reader}
-use Rattle.keying.specs.declared.reader.Step.{Step}
-use Rattle.keying.specs.declared.reader.Step.the-variants as step
+use Rattle.keying.specs.declared.reader.Went.{Went}
+use Rattle.keying.specs.declared.reader.Went.the-variants as went
 
 -- a number with one byte more: 65,536 is too large, 65,537 none
 unfoldable pub number-with : ℕ → ℕ → ℕ
@@ -46,26 +46,26 @@ abbrev pub no-word : Word
 no-word = record { size = 0; high = 0; low = 0; number = 0 }
 
 unfoldable pub blank-reader : ℕ → ℕ → Reader
-blank-reader line entry = record { line = line; entry = entry; remark = false; told = no-entry; word = no-word }
+blank-reader line entry = record { line = line; entry = entry; remark = false; partial = no-entry; word = no-word }
 
 unfoldable pub reader-grown : Reader → ℕ → Reader
-reader-grown r b = cond (r .remark) r (record { line = r .line; entry = r .entry; remark = false; told = r .told; word = word-with (r .word) b })
+reader-grown r b = cond (r .remark) r (record { line = r .line; entry = r .entry; remark = false; partial = r .partial; word = word-with (r .word) b })
 
-unfoldable pub reader-finished : Entry → Reader → Step
-reader-finished e next = cond (eqb (e .filled) 0) (step.On next) (cond (eqb (e .filled) 3) (step.Told next (e .told)) (step.Wrong MissingField 0))
+unfoldable pub reader-finished : Entry → Reader → Went
+reader-finished e next = cond (eqb (e .filled) 0) (went.On next) (cond (eqb (e .filled) 3) (went.Entry next (e .told)) (went.Wrong MissingField 0))
 
-unfoldable pub reader-ended : Reader → Entry → ℕ → Step
+unfoldable pub reader-ended : Reader → Entry → ℕ → Went
 reader-ended r e b =
     cond (eqb b 10) (reader-finished e (blank-reader (r .line + 1) 1))
     (cond (eqb b 44) (reader-finished e (blank-reader (r .line) (r .entry + 1)))
-    (step.On (record { line = r .line; entry = r .entry; remark = eqb b 35; told = e; word = no-word })))
+    (went.On (record { line = r .line; entry = r .entry; remark = eqb b 35; partial = e; word = no-word })))
 
-abbrev pub reader-taken : Reader → ℕ → Taken → Step
-reader-taken r b (taken.Wrong slip) = step.Wrong slip (r .word .size)
+abbrev pub reader-taken : Reader → ℕ → Taken → Went
+reader-taken r b (taken.Wrong slip) = went.Wrong slip (r .word .size)
 reader-taken r b (taken.Grown e) = reader-ended r e b
 
-unfoldable pub reader-step : Reader → ℕ → Step
-reader-step r b = cond (inner (r .remark) b) (step.On (reader-grown r b)) (reader-taken r b (entry-with (r .told) (r .entry) (r .word)))
+unfoldable pub reader-turn : Reader → ℕ → Went
+reader-turn r b = cond (inner (r .remark) b) (went.On (reader-grown r b)) (reader-taken r b (entry-with (r .partial) (r .entry) (r .word)))
 
 -- what is counted can go up by one
 pub record Counts (r : Reader) : Type 0 where

@@ -11,7 +11,7 @@ use Rattle.refusal.specs.declared.Answer.{Answer}
 use Rattle.refusal.specs.Says as answer
 use Rattle.keying.specs.Text.{meaning}
 use Rattle.keying.specs.Keys.{Answers}
-use Rattle.keying.specs.Lines.{Told}
+use Rattle.keying.specs.Lines.{Printed}
 use Rattle.keying.specs.declared.entry.Slip.{Slip}
 use Rattle.keying.specs.declared.reader.Reader.{Reader}
 use Rattle.keying.specs.declared.keyed.Keyed.{Keyed}
@@ -31,7 +31,7 @@ pub record Prints (file : List ℕ) (writing : Bool) (old : List ℕ) (r : Answe
   pub text : List ℕ
   pub number : ℕ
   pub value : ℕ
-  pub told : Told file 0 text number value
+  pub printed : Printed file 0 text number value
   pub within : length text ≤ 61440
   pub answer : answer.Says r (λ n v. (n ≡ cond (eqb number 255) 0 number) × (v ≡ cond (eqb number 255) (cond writing (length text) 0) value))
   pub bytes : new ≡ cond writing (sets old 0 text) old

@@ -7,7 +7,7 @@ use native.Mathlib.Omega.{arith}
 use borrow.Author.Needs.{needs}
 use lib.ListN.{length}
 use Rattle.refusal.specs.Table.{refused, passed}
-use Rattle.book.specs.Told.{Book, held, row-in, latest-of}
+use Rattle.book.specs.Told.{Book, book-in, row-in, latest-of}
 use Rattle.plan.specs.Plan.{plan-of}
 use Rattle.plan.proofs.BookPlan.{book-plan}
 use Rattle.plan.proofs.place.Statement.{statement}
@@ -15,7 +15,7 @@ use Rattle.plan.proofs.place.Tie as tie
 
 -- the book lent
 abbrev book : tie.Start → Book
-book s = held (s .args .times .now) (s .args .before .now)
+book s = book-in (s .args .times .now) (s .args .before .now)
 
 -- where the function began
 abbrev entry : tie.Else1 → tie.Start

@@ -6,7 +6,7 @@ use Prim.Native.Nat.{ℕ, _*_}
 use native.Mathlib.Omega.{arith}
 use borrow.Author.Needs.{needs}
 use Rattle.refusal.specs.Table.{refused, passed}
-use Rattle.book.specs.Told.{Book, held, cores}
+use Rattle.book.specs.Told.{Book, book-in, cores}
 use Rattle.plan.specs.Inner.Bytes.{seated}
 use Rattle.plan.proofs.BookPlan.{finish-fits}
 use Rattle.plan.proofs.WrittenBytes.{plan-writable, plan-written}
@@ -15,7 +15,7 @@ use Rattle.plan.proofs.plan.Tie as tie
 
 -- the book lent
 abbrev book : tie.Start → Book
-book s = held (s .args .times .now) (s .args .before .now)
+book s = book-in (s .args .times .now) (s .args .before .now)
 
 -- the plan laid out and the bytes cleared, from where they are written
 abbrev laid : tie.After-clear → tie.After-lay-out

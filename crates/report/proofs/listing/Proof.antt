@@ -4,9 +4,9 @@ use mathlib.Core.Path.{refl, sym}
 use native.Mathlib.Omega.{arith}
 use borrow.Author.Needs.{needs}
 use Rattle.refusal.specs.Table.{refused}
-use Rattle.book.specs.Told.{Book, held}
+use Rattle.book.specs.Told.{Book, book-in}
 use Rattle.report.specs.Line.{too-long-line}
-use Rattle.report.proofs.Whole.{lists-by, FileRead, row-length, book-made, no-nine, listed}
+use Rattle.report.proofs.Assembled.{lists-by, FileRead, row-length, book-made, no-nine, listed}
 use Rattle.report.proofs.listing.Statement.{statement}
 use Rattle.report.proofs.listing.Tie as tie
 
@@ -15,10 +15,10 @@ abbrev start : tie.After-read-file → tie.Start
 start f = f .before .before .before .before .before .before .before .before .before
 
 abbrev book : tie.After-read-file → Book
-book f = let o = f .before .before .before .before in held (o .«open» .last .0) (o .«open» .last .1 .0)
+book f = let o = f .before .before .before .before in book-in (o .«open» .last .0) (o .«open» .last .1 .0)
 
 -- the file read
-read : (f : tie.After-read-file) → FileRead (start f .args .file .now) (book f) 4096 (f .read-file .last .1 .1 .1 .0) (held (f .read-file .last .0) (f .read-file .last .1 .0)) (f .read-file .result .records) (f .read-file .result .at) (f .read-file .result .event)
+read : (f : tie.After-read-file) → FileRead (start f .args .file .now) (book f) 4096 (f .read-file .last .1 .1 .1 .0) (book-in (f .read-file .last .0) (f .read-file .last .1 .0)) (f .read-file .result .records) (f .read-file .result .at) (f .read-file .result .event)
 read f = record { bytes = refl; empty = f .before .before .before .before .«open» .ensures; fits = omega arith; tells = f .read-file .ensures }
 
 too-long-requires : tie.Need-too-long-requires

@@ -1,8 +1,8 @@
 -- `firmware::file::firmware_read` meets its contract.
 -- Assumes nothing.
 use borrow.Author.Needs.{needs}
-use Rattle.book.specs.Told.{held}
-use Rattle.jobfile.specs.Reader.{ReadsRecord, step}
+use Rattle.book.specs.Told.{book-in}
+use Rattle.jobfile.specs.Reader.{ReadsRecord, after-read}
 use Rattle.jobfile.proofs.Events.{tells-told}
 use Rattle.firmware.proofs.file.firmware_read.Statement.{statement}
 use Rattle.firmware.proofs.file.firmware_read.Tie as tie
@@ -21,7 +21,7 @@ returns c =
     let t = c .before .before in
     let a = t .before .before .before .before .before .args in
     rw (c .number .ensures, c .before .value .ensures)
-    (tells-told (λ n v. ReadsRecord (held (a .times .now) (a .before .now)) (a .file .now) (a .at .now) (step (held (t .read .last .0) (t .read .last .1 .0)) (t .read .last .1 .1 .1 .0) n v)) (t .read .result) (t .read .ensures))
+    (tells-told (λ n v. ReadsRecord (book-in (a .times .now) (a .before .now)) (a .file .now) (a .at .now) (after-read (book-in (t .read .last .0) (t .read .last .1 .0)) (t .read .last .1 .1 .1 .0) n v)) (t .read .result) (t .read .ensures))
 
 pub firmware-read-spec : {M : Type 1} → statement M
 firmware-read-spec = tie.close (tie.spec read-requires value-requires number-requires returns)

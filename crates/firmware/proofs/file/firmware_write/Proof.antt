@@ -2,7 +2,7 @@
 -- Assumes nothing.
 use borrow.Author.Needs.{needs}
 use Rattle.refusal.proofs.Says.{says-told}
-use Rattle.book.specs.Told.{held}
+use Rattle.book.specs.Told.{book-in}
 use Rattle.jobfile.specs.Writer.{WritesBook}
 use Rattle.firmware.proofs.file.firmware_write.Statement.{statement}
 use Rattle.firmware.proofs.file.firmware_write.Tie as tie
@@ -24,7 +24,7 @@ returns c =
     let t = c .before .before .before .before in
     let a = t .before .before .before .args in
     rw (c .number .ensures, c .before .value .ensures)
-    (says-told (WritesBook (held (a .times .now) (a .before .now)) (a .out .now) (t .write .last .1 .1 .0)) (t .write .result) (t .write .ensures))
+    (says-told (WritesBook (book-in (a .times .now) (a .before .now)) (a .out .now) (t .write .last .1 .1 .0)) (t .write .result) (t .write .ensures))
 
 pub firmware-write-spec : {M : Type 1} → statement M
 firmware-write-spec =

@@ -19,13 +19,13 @@ enum-known-placed-2 c = search needs
 returns : tie.Need-returns
 returns c =
     let p = c .before .before .before in
-    record { values = _; places = rw (p .placed .given .1) at (p .before .before .place .ensures); told = refl }
+    record { values = _; places = rw (p .placed .given .1) at (p .before .before .place .ensures); lent = refl }
 
 returns-2 : tie.Need-returns-2
 returns-2 c =
     let p = c .before in
     let x = rw (p .placed2 .given .1) at (p .before .before .place .ensures) in
-    record { values = _; places = x .1; told = simp (ne-eqb (p .placed2 .given .0 .0) 0 (λ e. omega (arith, x .0, e))) }
+    record { values = _; places = x .1; lent = simp (ne-eqb (p .placed2 .given .0 .0) 0 (λ e. omega (arith, x .0, e))) }
 
 pub firmware-place-spec : {M : Type 1} → statement M
 firmware-place-spec =

@@ -2,7 +2,7 @@
 -- Assumes nothing.
 use borrow.Author.Needs.{needs}
 use Rattle.refusal.proofs.Says.{says-told}
-use Rattle.book.specs.Told.{held}
+use Rattle.book.specs.Told.{book-in}
 use Rattle.plan.specs.Plan.{Plans}
 use Rattle.firmware.proofs.plans.firmware_plan.Statement.{statement}
 use Rattle.firmware.proofs.plans.firmware_plan.Tie as tie
@@ -24,7 +24,7 @@ returns c =
     let t = c .before .before .before .before in
     let a = t .before .before .before .args in
     rw (c .number .ensures, c .before .value .ensures)
-    (says-told (Plans (held (a .times .now) (a .before .now)) (a .out .now) (t .plan .last .1 .1 .0)) (t .plan .result) (t .plan .ensures))
+    (says-told (Plans (book-in (a .times .now) (a .before .now)) (a .out .now) (t .plan .last .1 .1 .0)) (t .plan .result) (t .plan .ensures))
 
 pub firmware-plan-spec : {M : Type 1} → statement M
 firmware-plan-spec =

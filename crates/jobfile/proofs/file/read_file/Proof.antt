@@ -7,9 +7,9 @@ use native.Mathlib.Omega.{arith}
 use borrow.Author.Needs.{needs}
 use lib.Dec.{T}
 use lib.ListN.{length}
-use Rattle.book.specs.Told.{held}
+use Rattle.book.specs.Told.{book-in}
 use Rattle.refusal.specs.Says.{number-of, value-of}
-use Rattle.jobfile.specs.Reader.{step, halts, ReadsRecord}
+use Rattle.jobfile.specs.Reader.{after-read, halts, ReadsRecord}
 use Rattle.jobfile.specs.Inner.File.{Underway}
 use Rattle.jobfile.proofs.Events.{tells-halted}
 use Rattle.jobfile.proofs.Single.{request-told, underway-begins, underway-ends, underway-less, underway-room, underway-more}
@@ -17,7 +17,7 @@ use Rattle.jobfile.proofs.file.read_file.Statement.{statement}
 use Rattle.jobfile.proofs.file.read_file.Tie as tie
 
 abbrev Inv-loop : tie.InvT-loop
-Inv-loop times₀ before₀ file answers₀ at₀ records₀ times before answers at records = Underway (held times₀ before₀) file answers₀ answers (held times before) at records
+Inv-loop times₀ before₀ file answers₀ at₀ records₀ times before answers at records = Underway (book-in times₀ before₀) file answers₀ answers (book-in times before) at records
 
 abbrev μ-loop : tie.MeasureT-loop
 μ-loop times₀ before₀ file answers₀ at₀ records₀ times before answers at records = length file - at
@@ -40,8 +40,8 @@ returns c =
 
 -- what the read of a request tells
 told : (c : tie.After-event Inv-loop μ-loop) → let r = c .before .before in let l = r .before .before .before .before in let a = c .event .given .0 .0 in
-    T (not (halts (number-of a))) × ReadsRecord (held (l .loop .times) (l .loop .before)) (l .before .before .args .file .now) (l .loop .at)
-    (step (held (r .read .last .0) (r .read .last .1 .0)) (r .read .last .1 .1 .1 .0) (number-of a) (value-of a))
+    T (not (halts (number-of a))) × ReadsRecord (book-in (l .loop .times) (l .loop .before)) (l .before .before .args .file .now) (l .loop .at)
+    (after-read (book-in (r .read .last .0) (r .read .last .1 .0)) (r .read .last .1 .1 .1 .0) (number-of a) (value-of a))
 told c = request-told _ _ _ _ _ _ _ (c .event .given .1) (c .before .before .read .ensures)
 
 number-requires : tie.Need-number-requires Inv-loop μ-loop

@@ -1,7 +1,7 @@
 -- `jobfile::reader::read` meets its contract: what is found decides.
 -- Assumes nothing.
 use native.Mathlib.Omega.{arith}
-use Rattle.book.specs.Told.{held}
+use Rattle.book.specs.Told.{book-in}
 use Rattle.jobfile.proofs.Reading.{end-reads, stop-reads, record-within, request-reads}
 use borrow.Author.Needs.{needs}
 use Rattle.jobfile.proofs.reader.read.Statement.{statement}
@@ -38,7 +38,7 @@ returns c =
     let l = c .before .before .before .before in
     let f = l .before .before in
     rw (l .length-of .ensures) (request-reads _ _ _ (f .before .before .before .before .before .pre) _ (rw (f .found .given .1) at (f .before .before .record-at .ensures))
-    (held (c .apply .last .0) (c .apply .last .1 .0)) (c .apply .result)
+    (book-in (c .apply .last .0) (c .apply .last .1 .0)) (c .apply .result)
     (rw (c .before .asked .ensures) at (c .apply .ensures)))
 
 returns-2 : tie.Need-returns-2

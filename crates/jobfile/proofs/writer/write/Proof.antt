@@ -4,7 +4,7 @@ use mathlib.Core.Path.{_≡_, sym}
 use Prim.Native.Nat.{_+_, _*_, _≤_}
 use native.Mathlib.Omega.{arith}
 use lib.ListN.{length}
-use Rattle.book.specs.Told.{held}
+use Rattle.book.specs.Told.{book-in}
 use Rattle.jobfile.specs.Writer.{file-of}
 use Rattle.jobfile.specs.Inner.Writer.{Continues}
 use Rattle.jobfile.proofs.Bytes.{continues-length}
@@ -15,14 +15,14 @@ use Rattle.jobfile.proofs.writer.write.Statement.{statement}
 use Rattle.jobfile.proofs.writer.write.Tie as tie
 
 -- the bytes counted are the bytes of the file, which are few
-needed : (c : tie.After-pairs) → let a = c .before .before .before .before .args in 6 * (c .before .wide .result + c .pairs .result) ≡ length (file-of (held (a .times .now) (a .before .now)))
+needed : (c : tie.After-pairs) → let a = c .before .before .before .before .args in 6 * (c .before .wide .result + c .pairs .result) ≡ length (file-of (book-in (a .times .now) (a .before .now)))
 needed c =
     let s = c .before .before .before .before in
     let counted = rw (c .before .wide .ensures) at (c .pairs .ensures) in
-    rw (c .before .wide .ensures, counted) (sym (file-length (held (s .args .times .now) (s .args .before .now)) _ (s .pre .1)))
+    rw (c .before .wide .ensures, counted) (sym (file-length (book-in (s .args .times .now) (s .args .before .now)) _ (s .pre .1)))
 
 few : (c : tie.After-pairs) → 6 * (c .before .wide .result + c .pairs .result) ≤ 12480
-few c = let s = c .before .before .before .before in omega (arith, needed c, file-short (held (s .args .times .now) (s .args .before .now)) _ (s .pre .1))
+few c = let s = c .before .before .before .before in omega (arith, needed c, file-short (book-in (s .args .times .now) (s .args .before .now)) _ (s .pre .1))
 
 element-copy-out-wide : tie.Need-element-copy-out-wide
 element-copy-out-wide c = search needs
@@ -40,7 +40,7 @@ mul-needed : tie.Need-mul-needed
 mul-needed c = omega (arith, few c)
 
 returns : tie.Need-returns
-returns c = (omega arith, short-writes _ _ _ (needed (c .before)) (c .if1 .taken))
+returns c = (omega arith, short-writes _ _ _ (needed (c .before)) (omega (arith, c .if1 .taken)))
 
 starts-requires : tie.Need-starts-requires
 starts-requires c κs = search needs
@@ -53,14 +53,14 @@ put-jobs-requires c κs =
     let e = c .before .before .before in
     let p = e .before in
     let s = p .before .before .before .before in
-    let k = held (s .args .times .now) (s .args .before .now) in
+    let k = book-in (s .args .times .now) (s .args .before .now) in
     let t = s .pre .1 .shaped in
     rw (p .before .wide .ensures, c .before .before .starts .ensures, c .before .latest .ensures)
     (omega (arith, t .few, t .starts), omega (arith, t .few, t .latests), omega (arith, file-both k, needed p, e .if1 .left))
 
 -- the jobs stored are those of the book
 jobs : (j : tie.After-put-jobs) → let a = j .before .before .before .before .before .before .before .before .before .args in
-    Continues 0 (jobs-bytes (held (a .times .now) (a .before .now))) (a .out .now) (j .put-jobs .last .1 .1 .1 .0) (j .put-jobs .result)
+    Continues 0 (jobs-bytes (book-in (a .times .now) (a .before .now))) (a .out .now) (j .put-jobs .last .1 .1 .1 .0) (j .put-jobs .result)
 jobs j =
     let l = j .before .before in
     rw (l .before .before .before .before .wide .ensures, l .before .starts .ensures, l .latest .ensures) at (j .put-jobs .ensures)
@@ -72,7 +72,7 @@ put-orders-requires c κs =
     let s = p .before .before .before .before in
     rw (p .before .wide .ensures) (
       s .pre .1 .shaped .few,
-      omega (arith, needed p, file-both (held (s .args .times .now) (s .args .before .now)), jobs j .next, continues-length _ _ _ _ _ (jobs j), j .before .before .before .before .if1 .left),
+      omega (arith, needed p, file-both (book-in (s .args .times .now) (s .args .before .now)), jobs j .next, continues-length _ _ _ _ _ (jobs j), j .before .before .before .before .if1 .left),
     )
 
 same-length : tie.Need-same-length

@@ -1,4 +1,4 @@
--- `keying::keyed::walk` meets its contract: what each step means.
+-- `keying::keyed::walk` meets its contract: what each byte means.
 -- Assumes nothing.
 use mathlib.Core.Bool.{cond}
 use mathlib.Core.List.{List, [], _++_}
@@ -10,9 +10,9 @@ use lib.ListN.{length, length-append}
 use lib.Seq.{sets}
 use Rattle.records.specs.Record.{bytes-of}
 use Rattle.records.proofs.Standing.{bytes-length}
-use Rattle.keying.specs.declared.reader.Step.{Step}
+use Rattle.keying.specs.declared.reader.Went.{Went}
 use borrow.Author.Needs.{needs}
-use Rattle.keying.proofs.Walk.{Reached, reached-start, reached-counts, Follows, follows, at-end, walks-by, stored-none, stored-length, stored-more}
+use Rattle.keying.proofs.Walk.{Reached, reached-start, reached-counts, Means, went-means, at-end, walks-by, stored-none, stored-length, stored-more}
 use Rattle.keying.proofs.keyed.walk.Statement.{statement}
 use Rattle.keying.proofs.keyed.walk.Tie as tie
 
@@ -23,20 +23,20 @@ Inv-loop text out₀ writing reader₀ at₀ i₀ out reader at i =
 abbrev μ-loop : tie.MeasureT-loop
 μ-loop text out₀ writing reader₀ at₀ i₀ out reader at i = length text + 1 - i
 
--- what the step means
+-- what the byte means
 means : (c : tie.After-take Inv-loop μ-loop)
-    → let l = c .before .before .before in Follows (l .before .before .before .before .before .args .text .now) (l .loop .reader) (l .loop .i) (l .loop .inv .1) (c .take .result)
+    → let l = c .before .before .before in Means (l .before .before .before .before .before .args .text .now) (l .loop .reader) (l .loop .i) (l .loop .inv .1) (c .take .result)
 means c =
     let l = c .before .before .before in
-    follows (l .before .before .before .before .before .args .text .now) (l .loop .reader) (l .loop .i) (l .loop .inv .1) (l .loop .inv .2) (omega arith) (c .take .result)
+    went-means (l .before .before .before .before .before .args .text .now) (l .loop .reader) (l .loop .i) (l .loop .inv .1) (l .loop .inv .2) (omega arith) (c .take .result)
     (rw (← c .before .byte-at .ensures) (sym (c .take .ensures)))
 
 -- as its case is known
-abbrev known : (c : tie.After-take Inv-loop μ-loop) (s : Step) → c .take .result ≡ s
-    → let l = c .before .before .before in Follows (l .before .before .before .before .before .args .text .now) (l .loop .reader) (l .loop .i) (l .loop .inv .1) s
+abbrev known : (c : tie.After-take Inv-loop μ-loop) (s : Went) → c .take .result ≡ s
+    → let l = c .before .before .before in Means (l .before .before .before .before .before .args .text .now) (l .loop .reader) (l .loop .i) (l .loop .inv .1) s
 known c s e =
     let l = c .before .before .before in
-    subst (Follows (l .before .before .before .before .before .args .text .now) (l .loop .reader) (l .loop .i) (l .loop .inv .1)) e (means c)
+    subst (Means (l .before .before .before .before .before .args .text .now) (l .loop .reader) (l .loop .i) (l .loop .inv .1)) e (means c)
 
 -- as many bytes as were lent
 kept : (l : tie.At-loop Inv-loop μ-loop) → length (l .loop .out) ≡ length (l .before .before .before .before .before .args .out .now)

@@ -1,7 +1,7 @@
 -- `keying::reader::take` meets its contract: the byte belongs to a word, or one ends.
 -- Assumes nothing.
 use mathlib.Core.Path.{sym, _∙_}
-use Rattle.keying.specs.Inner.Machine.{reader-step}
+use Rattle.keying.specs.Inner.Machine.{reader-turn}
 use borrow.Author.Needs.{needs}
 use Rattle.keying.proofs.reader.take.Statement.{statement}
 use Rattle.keying.proofs.reader.take.Tie as tie
@@ -13,7 +13,7 @@ grown-requires : tie.Need-grown-requires
 grown-requires c κs = search needs
 
 returns : tie.Need-returns
-unfolding reader-step
+unfolding reader-turn
 returns c = rw (c .grown .ensures) (simp (sym (c .before .before .is-inner .ensures) ∙ c .before .if1 .taken))
 
 with-requires : tie.Need-with-requires
@@ -29,13 +29,13 @@ ended-requires : tie.Need-ended-requires
 ended-requires c κs = search needs
 
 returns-2 : tie.Need-returns-2
-unfolding reader-step
+unfolding reader-turn
 returns-2 c =
     let w = c .before .before .before in
     simp (sym (w .before .before .before .before .is-inner .ensures) ∙ w .before .before .before .if1 .left, sym (w .with .ensures) ∙ c .before .slip .given .1)
 
 returns-3 : tie.Need-returns-3
-unfolding reader-step
+unfolding reader-turn
 returns-3 c =
     let w = c .before .before .before .before in
     rw (c .ended .ensures) (simp (sym (w .before .before .before .before .is-inner .ensures) ∙ w .before .before .before .if1 .left, sym (w .with .ensures) ∙ c .before .before .more .given .1))

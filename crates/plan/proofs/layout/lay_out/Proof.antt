@@ -6,7 +6,7 @@ use Prim.Native.Nat.{_-_, _≤_}
 use native.Mathlib.Omega.{arith}
 use borrow.Author.Needs.{needs}
 use Rattle.sets.specs.Sets.{Below}
-use Rattle.book.specs.Told.{Book, held, jobs-of, latest-of, cores}
+use Rattle.book.specs.Told.{Book, book-in, jobs-of, latest-of, cores}
 use Rattle.plan.specs.Plan.{horizon}
 use Rattle.plan.specs.Inner.Layout.{Laid, Late}
 use Rattle.plan.proofs.BookPlan.{all-placed}
@@ -16,7 +16,7 @@ use Rattle.plan.proofs.layout.lay_out.Tie as tie
 
 abbrev Inv-loop : tie.InvT-loop
 Inv-loop times before size start latest slot₀ stage₀ slot stage =
-    let k = held times before in
+    let k = book-in times before in
     (stage .next .0 ≤ horizon) × Laid cores (jobs-of k) (latest-of k) slot stage × ((stage .next .0 ≡ 0) ⊎ Late cores (jobs-of k) (latest-of k) (stage .next .0))
 
 abbrev μ-loop : tie.MeasureT-loop
@@ -27,7 +27,7 @@ abbrev entry : tie.After-below Inv-loop μ-loop → tie.Start Inv-loop μ-loop
 entry b = b .before .before .before .before
 
 abbrev book : tie.Start Inv-loop μ-loop → Book
-book s = held (s .args .times .now) (s .args .before .now)
+book s = book-in (s .args .times .now) (s .args .before .now)
 
 size : (b : tie.After-below Inv-loop μ-loop) → b .before .before .before .size-of .result ≡ book (entry b) .size
 size b = b .before .before .before .size-of .ensures

@@ -6,7 +6,7 @@ use native.Mathlib.Omega.{arith}
 use borrow.Author.Needs.{needs}
 use borrow.Author.Tests.{not-true, not-false}
 use lib.ListN.{length}
-use Rattle.book.specs.Told.{Book, held}
+use Rattle.book.specs.Told.{Book, book-in}
 use Rattle.book.proofs.Parts.{part-length}
 use Rattle.planner.specs.Inner.Memory.{Limits}
 use Rattle.planner.proofs.Whether.{whether-no, whether-as}
@@ -16,7 +16,7 @@ use Rattle.planner.proofs.memory.is_book.Tie as tie
 
 -- the book that the memory spells
 abbrev book : tie.Start → Book
-book s = held (s .args .times .now) (s .args .before .now)
+book s = book-in (s .args .times .now) (s .args .before .now)
 
 -- where each test stands, from the one after it
 abbrev first : tie.After-limited → tie.After-wide

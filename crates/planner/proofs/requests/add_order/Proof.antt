@@ -9,7 +9,7 @@ use lib.ListN.{getD}
 use Rattle.schedule.specs.Listed.{Listed, with-order}
 use Rattle.refusal.specs.Table.{refused}
 use Rattle.refusal.proofs.Table.{then-table}
-use Rattle.book.specs.Told.{held, Told}
+use Rattle.book.specs.Told.{book-in, Told}
 use Rattle.planner.specs.declared.requests.Request.the-variants.{Before}
 use Rattle.planner.specs.Requests.{Sound}
 use Rattle.planner.proofs.Growing.{Grows, false-T, true-T, size-is, order-held, order-back, order-free, followed-told, told-last}
@@ -63,7 +63,7 @@ returns-4 c = (
 )
 
 -- past all checks but the last
-sound : (c : tie.Else4) (L : Listed) → let s = c .before .before .before .before .before .before .before .before in Told (held (s .args .times .now) (s .args .before .now)) L → Sound L (Before (s .args .first) (s .args .second))
+sound : (c : tie.Else4) (L : Listed) → let s = c .before .before .before .before .before .before .before .before in Told (book-in (s .args .times .now) (s .args .before .now)) L → Sound L (Before (s .args .first) (s .args .second))
 sound c L t =
     let w = c .before .before .before .before .before .before .wide .ensures .0 in
     (order-held L _ t _ _ (omega (arith, w)) (omega (arith, w)), order-free L _ t _ _ (omega (arith, w)) (omega (arith, w)) (c .before .before .before .if3 .left) (false-T _ (sym (c .before .has .ensures) ∙ c .if4 .left)))
@@ -103,7 +103,7 @@ element-copy-out-due : tie.Need-element-copy-out-due
 element-copy-out-due c = search needs
 
 -- the book with the order, before its times are settled
-ordered : (c : tie.After-with) (L : Listed) → let s = c .before .before .before .before .before .before .before .before .before .before .before .before .before in Told (held (s .args .times .now) (s .args .before .now)) L →
+ordered : (c : tie.After-with) (L : Listed) → let s = c .before .before .before .before .before .before .before .before .before .before .before .before .before in Told (book-in (s .args .times .now) (s .args .before .now)) L →
     Grows (with-order L (s .args .first .0) (s .args .second .0))
     (posed (c .before .before .before .before .before .before .before .before .before .before .before .wide .result) (s .args .times .now) (s .args .before .now)
     (record { job = s .args .second; more = c .with .result }) (s .args .second .0) (getD (s .args .times .now) (65 + s .args .second .0) 0))

@@ -1,7 +1,7 @@
 -- `planner::requests::apply` meets its contract.
 -- Assumes nothing.
 use borrow.Author.Needs.{needs}
-use Rattle.book.specs.Told.{held}
+use Rattle.book.specs.Told.{book-in}
 use Rattle.planner.specs.declared.requests.Request.the-variants.{Job, Before, Earlier}
 use Rattle.planner.proofs.Outcome.{says-applies}
 use Rattle.planner.proofs.requests.apply.Statement.{statement}
@@ -29,19 +29,19 @@ returns : tie.Need-returns
 returns c =
     let told = c .before .before .before .before in
     let a = told .before .before .args in
-    rw (told .request .given .1) (says-applies (held (a .times .now) (a .before .now)) (Job _ _) (held (c .add-job .last .0) (a .before .now)) (c .add-job .result) (told .before .before .pre) (c .add-job .ensures))
+    rw (told .request .given .1) (says-applies (book-in (a .times .now) (a .before .now)) (Job _ _) (book-in (c .add-job .last .0) (a .before .now)) (c .add-job .result) (told .before .before .pre) (c .add-job .ensures))
 
 returns-2 : tie.Need-returns-2
 returns-2 c =
     let told = c .before .before .before .before in
     let a = told .before .before .args in
-    rw (told .request2 .given .1) (says-applies (held (a .times .now) (a .before .now)) (Before _ _) (held (c .add-order .last .0) (c .add-order .last .1 .0)) (c .add-order .result) (told .before .before .pre) (c .add-order .ensures))
+    rw (told .request2 .given .1) (says-applies (book-in (a .times .now) (a .before .now)) (Before _ _) (book-in (c .add-order .last .0) (c .add-order .last .1 .0)) (c .add-order .result) (told .before .before .pre) (c .add-order .ensures))
 
 returns-3 : tie.Need-returns-3
 returns-3 c =
     let told = c .before .before .before .before in
     let a = told .before .before .args in
-    rw (told .request3 .given .1) (says-applies (held (a .times .now) (a .before .now)) (Earlier _ _) (held (c .draw-in .last .0) (a .before .now)) (c .draw-in .result) (told .before .before .pre) (c .draw-in .ensures))
+    rw (told .request3 .given .1) (says-applies (book-in (a .times .now) (a .before .now)) (Earlier _ _) (book-in (c .draw-in .last .0) (a .before .now)) (c .draw-in .result) (told .before .before .pre) (c .draw-in .ensures))
 
 pub apply-spec : {M : Type 1} → statement M
 apply-spec =

@@ -9,7 +9,7 @@ use Rattle.schedule.specs.Listed.{Listed, with-deadline}
 use lib.ListN.{getD}
 use Rattle.refusal.specs.Table.{refused}
 use Rattle.refusal.proofs.Table.{then-table}
-use Rattle.book.specs.Told.{held, Told}
+use Rattle.book.specs.Told.{book-in, Told}
 use Rattle.book.proofs.Parts.{part-at}
 use Rattle.planner.specs.declared.requests.Request.the-variants.{Earlier}
 use Rattle.planner.specs.Requests.{Sound}
@@ -42,7 +42,7 @@ element-copy-out-if3 : tie.Need-element-copy-out-if3
 element-copy-out-if3 c = search needs
 
 -- the job's start, in the list and in the book
-started : (c : tie.Else2) (L : Listed) → let s = c .before .before .before .before in Told (held (s .args .times .now) (s .args .before .now)) L →
+started : (c : tie.Else2) (L : Listed) → let s = c .before .before .before .before in Told (book-in (s .args .times .now) (s .args .before .now)) L →
     getD (L .starts) (s .args .job .0) 0 ≡ getD (s .args .times .now) (1 + s .args .job .0) 0
 started c L t =
     let s = c .before .before .before .before in
@@ -59,7 +59,7 @@ returns-3 c = (
 )
 
 -- past all checks but the last
-sound : (c : tie.Else3) (L : Listed) → let s = c .before .before .before .before .before .before in Told (held (s .args .times .now) (s .args .before .now)) L → Sound L (Earlier (s .args .job) (s .args .deadline))
+sound : (c : tie.Else3) (L : Listed) → let s = c .before .before .before .before .before .before in Told (book-in (s .args .times .now) (s .args .before .now)) L → Sound L (Earlier (s .args .job) (s .args .deadline))
 sound c L t =
     let e = c .before .before in
     ((λ f. omega (arith, size-is L _ t, e .before .before .wide .ensures .0)), ((λ f. omega arith), λ f. omega (arith, started e L t)))
@@ -88,12 +88,12 @@ none-requires : tie.Need-none-requires
 none-requires c κs = search needs
 
 -- the book with the deadline drawn in
-drawn : (c : tie.After-none) (L : Listed) → let s = c .before .before .before .before .before .before .before .before .before .before in Told (held (s .args .times .now) (s .args .before .now)) L →
+drawn : (c : tie.After-none) (L : Listed) → let s = c .before .before .before .before .before .before .before .before .before .before in Told (book-in (s .args .times .now) (s .args .before .now)) L →
     Grows (with-deadline L (s .args .job .0) (s .args .deadline))
     (posed (c .before .before .before .before .before .before .before .before .wide .result) (s .args .times .now) (s .args .before .now) (c .none .result) (s .args .job .0) (s .args .deadline))
 drawn c L t = deadline-posed L _ _ t _ _ _ _ (c .none .ensures) (c .before .before .before .before .before .before .before .before .wide .ensures .0) (omega arith) (omega arith) (omega arith)
 
-unwaited : (c : tie.After-none) {L : Listed} → let s = c .before .before .before .before .before .before .before .before .before .before in Told (held (s .args .times .now) (s .args .before .now)) L →
+unwaited : (c : tie.After-none) {L : Listed} → let s = c .before .before .before .before .before .before .before .before .before .before in Told (book-in (s .args .times .now) (s .args .before .now)) L →
     s .args .before .now ≡ joined-rows (s .args .before .now) (c .none .result)
 unwaited c t = sym (ap (joined-rows _) (c .none .ensures) ∙ rows-same _ (t .shaped .befores))
 

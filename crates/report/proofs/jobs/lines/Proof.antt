@@ -22,8 +22,8 @@ abbrev μ-loop : tie.MeasureT-loop
 pass-requires : tie.Need-pass-requires Inv-loop μ-loop
 pass-requires c κs = c .before .before .before .pre .short
 
-held-requires : tie.Need-held-requires Inv-loop μ-loop
-held-requires c κs = search needs
+job-count-requires : tie.Need-job-count-requires Inv-loop μ-loop
+job-count-requires c κs = search needs
 
 loop-holds : tie.Need-loop-holds Inv-loop μ-loop
 loop-holds c = (search needs, search needs, each-none _)
@@ -60,7 +60,7 @@ lines-spec =
     Inv-loop
     μ-loop
     pass-requires
-    held-requires
+    job-count-requires
     loop-holds
     job-requires
     add-i

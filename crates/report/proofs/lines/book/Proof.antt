@@ -4,7 +4,7 @@ use mathlib.Core.Path.{refl, sym, subst}
 use native.Mathlib.Omega.{arith}
 use borrow.Author.Needs.{needs}
 use lib.ListN.{replicate}
-use Rattle.book.specs.Told.{Book, held}
+use Rattle.book.specs.Told.{Book, book-in}
 use Rattle.text.proofs.Putting.{puts-then}
 use Rattle.report.proofs.Ends.{Handed, handed, in-time, job-lines-by}
 use Rattle.report.proofs.lines.book.Statement.{statement}
@@ -12,7 +12,7 @@ use Rattle.report.proofs.lines.book.Tie as tie
 
 -- the book lent
 abbrev book : tie.Start → Book
-book s = held (s .args .times .now) (s .args .before .now)
+book s = book-in (s .args .times .now) (s .args .before .now)
 
 abbrev entry : tie.After-value → tie.Start
 entry v = v .before .before .before .before .before
@@ -30,8 +30,8 @@ plan-requires c κs = search needs
 value-requires : tie.Need-value-requires
 value-requires c κs = search needs
 
-held-requires : tie.Need-held-requires
-held-requires c κs = search needs
+job-count-requires : tie.Need-job-count-requires
+job-count-requires c κs = search needs
 
 jobs-requires : tie.Need-jobs-requires
 jobs-requires c κs = search needs
@@ -63,7 +63,7 @@ returns c =
     let v = j .before .before .before in
     let s = entry v in
     let m = made v in
-    let headed = rw (j .before .held .ensures, m .ends) at (j .jobs .ensures) in
+    let headed = rw (j .before .job-count .ensures, m .ends) at (j .jobs .ensures) in
     let slotted = rw (m .front) at (c .before .before .before .before .before .before .slots .ensures) in
     let listed = rw (m .front, job-lines-by (s .args .times .now) (s .args .before .now) (s .pre)) at (c .before .before .lines .ensures) in
     puts-then (puts-then headed slotted) listed
@@ -75,7 +75,7 @@ book-spec =
     slice-aggregate-plan
     plan-requires
     value-requires
-    held-requires
+    job-count-requires
     jobs-requires
     mul-needed
     array-share-prefix-bytes

@@ -13,14 +13,14 @@ use Rattle.schedule.proofs.Tests.{same-test}
 use Rattle.schedule.proofs.Early.{earliest-one}
 use Rattle.schedule.proofs.Exist.{latest-one}
 use Rattle.schedule.proofs.Rows.{greatest-least}
-use Rattle.schedule.proofs.Made.{made-in-time}
+use Rattle.schedule.proofs.Greedy.{made-in-time}
 use Rattle.schedule.proofs.Seats.{placed-settled}
 use Rattle.schedule.proofs.Chains.{reads-closed}
-use Rattle.schedule.proofs.Alike.{Alike, placed, waits, Same, slots-alike, bytes-alike, finish-same}
+use Rattle.schedule.proofs.Alike.{Alike, placed, waits, SameJobs, slots-alike, bytes-alike, finish-same}
 use Rattle.schedule.proofs.Renumber.{earliest-along, latest-along, latest-agrees}
 
 -- they are the same jobs
-pub reads-one : (L : Listed) (J K : Jobs) → Reads L J → Reads L K → Same J K
+pub reads-one : (L : Listed) (J K : Jobs) → Reads L J → Reads L K → SameJobs J K
 reads-one L J K r s =
     let size : K .size ≡ J .size = s .size ∙ sym (r .size) in
     record {
@@ -42,7 +42,7 @@ latest-any m J early other due row e o = latest-agrees m J early other due due r
 -- the same latest times
 pub holds-one : (m : ℕ) (L : Listed) (J K : Jobs) (times other : ℕ → ℕ) → Holds m L J times → Holds m L K other → (i : ℕ) → i < J .size → times i ≡ other i
 holds-one m L J K times other h k =
-    let r : Same K J = reads-one L K J (k .reads) (h .reads) in
+    let r : SameJobs K J = reads-one L K J (k .reads) (h .reads) in
     let e : Earliest J (k .early) = earliest-along K J (λ i. i) (λ i. i) r (k .early) (k .early) (λ i l. refl) (k .earliest) in
     let a : Latest m J (k .early) (written L) other =
     latest-along m K J (λ i. i) (λ i. i) r (k .early) (k .early) (written L) (written L) other other (λ i l. refl) (λ i l. refl) (λ i l. refl) (k .latest) in
@@ -51,7 +51,7 @@ holds-one m L J K times other h k =
 -- the same plans
 pub plan-one : (m : ℕ) (L : Listed) (J K : Jobs) (due : ℕ → ℕ) → Reads L J → Reads L K → HasPlan m J due → HasPlan m K due
 plan-one m L J K due r s p =
-    let x : Same J K = reads-one L J K r s in (
+    let x : SameJobs J K = reads-one L J K r s in (
       p .0,
       record {
         room = λ t. rw (x .size) (p .1 .room t);
@@ -73,7 +73,7 @@ module _ (L : Listed) (J K : Jobs) (times other : ℕ → ℕ) (h : Holds 2 L J 
   abbrev slot′ : ℕ → ℕ
   slot′ = slots 2 K other far′ end′
 
-  same : Same J K
+  same : SameJobs J K
   same = reads-one L J K (h .reads) (k .reads)
 
   in-time : (i : ℕ) → i < J .size → slot i < end

@@ -9,7 +9,7 @@ use lib.ListN.{length, getD}
 use lib.Seq.{ext-getD}
 use Rattle.schedule.specs.Listed.{Listed}
 use Rattle.schedule.proofs.Tests.{le-or-lt, same-test}
-use Rattle.schedule.proofs.Same.{reads-one, holds-one}
+use Rattle.schedule.proofs.Readings.{reads-one, holds-one}
 use Rattle.book.specs.Told.{Book}
 use Rattle.sets.specs.Sets.{has}
 use Rattle.book.specs.Told.{jobs-of, latest-of, Told}

@@ -10,7 +10,7 @@ use lib.Seq.{length-sets}
 use Rattle.refusal.specs.Table.{passed}
 use Rattle.book.specs.Told.{Book, Told, Made, nothing-listed}
 use Rattle.jobfile.specs.declared.reader.Event.{Event}
-use Rattle.jobfile.specs.Reader.{step, Tells, event-number, event-value}
+use Rattle.jobfile.specs.Reader.{after-read, Tells, event-number, event-value}
 use Rattle.jobfile.specs.File.{ReadsFile}
 use Rattle.jobfile.proofs.Events.{tells-more, tells-told}
 use Rattle.jobfile.proofs.Single.{single-reads-few, reads-file-bytes}
@@ -37,7 +37,7 @@ pub record FileRead (file : List ℕ) (k : Book) (size : ℕ) (row : List ℕ) (
   pub bytes : size ≡ 4096
   pub empty : Told k nothing-listed
   pub fits : length file ≤ 24576
-  pub tells : Tells e (λ n v. ReadsFile k file (replicate size 0) row count (step book at n v))
+  pub tells : Tells e (λ n v. ReadsFile k file (replicate size 0) row count (after-read book at n v))
 
 module _ {file : List ℕ} {k : Book} {size : ℕ} {row : List ℕ} {book : Book} {count at : ℕ} {e : Event} (x : FileRead file k size row book count at e) where
   zeros-length : length {A = ℕ} (replicate size 0) ≡ 4096
@@ -49,7 +49,7 @@ module _ {file : List ℕ} {k : Book} {size : ℕ} {row : List ℕ} {book : Book
   pub book-made : Made book
   book-made = tells-told _ e (x .tells) .made
 
-  ended : {n v : ℕ} → ReadsFile k file (replicate size 0) row count (step book at n v) → Ending n v
+  ended : {n v : ℕ} → ReadsFile k file (replicate size 0) row count (after-read book at n v) → Ending n v
   ended y = ending file (x .fits) k 0 (y .numbers) _ (nothing-listed, x .empty) (omega arith) (y .reads)
 
   pub no-nine : Tells e (λ n v. n ≡ 9 → ⊥)
@@ -63,5 +63,5 @@ module _ {file : List ℕ} {k : Book} {size : ℕ} {row : List ℕ} {book : Book
       let same = ap refused-lines (reads-file-bytes k file (replicate size 0) row count _ zeros-length y) ∙ refused-lines-row size (y .numbers) (omega (arith, x .bytes)) in
       let short = text-short (y .numbers) (event-number e) (event-value e) book (omega arith) (numbers-small file k 0 (y .numbers) _ (nothing-listed, x .empty) (y .reads)) (ended y) (y .made) in
       let prints : Prints file (refused-lines (y .numbers) ++ stop-line (event-number e) (event-value e) ++ book-lines book) =
-      record { opened = k; empty = x .empty; numbers = y .numbers; last = step book at (event-number e) (event-value e); reads = y .reads; told = refl } in
+      record { opened = k; empty = x .empty; numbers = y .numbers; last = after-read book at (event-number e) (event-value e); reads = y .reads; printed = refl } in
       lists-by file _ old new r (passed (λ over. omega (arith, x .fits)) prints) (omega arith) (puts-then (puts-then (rw same at p) (tells-told _ e q)) s)
