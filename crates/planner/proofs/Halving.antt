@@ -1,6 +1,6 @@
 -- Deadlines tried at a number: later at a greater one, so that a search by halving finds the least that leaves a plan.
 -- Assumes nothing.
-use mathlib.Core.Bool.{Bool}
+use mathlib.Core.Bool.{Bool, true, false}
 use mathlib.Core.List.{List}
 use mathlib.Core.Logic.{_↔_}
 use mathlib.Core.Path.{_≡_}
@@ -22,6 +22,7 @@ use Rattle.planner.specs.Inner.Tighten.{Tightenable, Tightens}
 use Rattle.planner.specs.Inner.List.{Judgeable}
 use Rattle.planner.specs.Inner.Late.{tried-of, Fills, Leaves}
 use Rattle.planner.proofs.Tightened.{tightens-whether}
+use Rattle.planner.proofs.Whether.{whether-as}
 
 tried-rising : (how : Trial) (deadline j k : ℕ) → j ≤ k → tried-of how deadline j ≤ tried-of how deadline k
 tried-rising Moved deadline j k h = omega arith
@@ -42,7 +43,7 @@ module _ (how : Trial) (starts deadlines before : List ℕ) (s : Judgeable start
   J = jobs-in (length starts) starts before
 
   -- ---- one judgement
-  module _ (k : ℕ) (row : List ℕ) (f : Fills how deadlines k row) where
+  module _ (k : ℕ) (row : List ℕ) (wide : Bool) (f : Fills how starts deadlines k row wide) where
     pub fills-ready : Tightenable (length starts) starts before row
     fills-ready = record {
       few = s .few;
@@ -55,16 +56,18 @@ module _ (how : Trial) (starts deadlines before : List ℕ) (s : Judgeable start
     }
 
     -- a plan meets the row exactly if it meets the deadlines tried
-    fills-plan : HasPlan cores J (row-in row) ↔ Leaves how starts deadlines before k
-    fills-plan = (
-      (λ p. (p .0, p .1, record { ends = λ i l. omega (arith, p .2 .ends i l, f .tries i (omega (arith, s .even))) })),
-      (λ p. (p .0, p .1, record { ends = λ i l. omega (arith, p .2 .ends i l, f .tries i (omega (arith, s .even))) })),
+    fills-plan : wide ≡ true → HasPlan cores J (row-in row) ↔ Leaves how starts deadlines before k
+    fills-plan y = (
+      (λ p. (p .0, p .1, record { ends = λ i l. omega (arith, p .2 .ends i l, f .tries y i l) })),
+      (λ p. (p .0, p .1, record { ends = λ i l. omega (arith, p .2 .ends i l, f .tries y i l) })),
     )
 
-    pub fills-whether : (next : List ℕ) (fits : Bool) → Tightens cores (length starts) starts before row next fits → Whether (Leaves how starts deadlines before k) fits
-    fills-whether next fits t =
-        let w = tightens-whether (length starts) starts before row next fits (s .closed) (s .loopless) t in
-        record { yes = λ e. fills-plan .0 (w .yes e); no = λ e p. w .no e (fills-plan .1 p) }
+    pub fills-whether : wide ≡ true → (next : List ℕ) (fits : Bool) → Tightens cores (length starts) starts before row next fits → Whether (Leaves how starts deadlines before k) fits
+    fills-whether y next fits t = whether-as (fills-plan y .0) (fills-plan y .1) (tightens-whether (length starts) starts before row next fits (s .closed) (s .loopless) t)
+
+    -- no job ends by its start
+    pub fills-shut : wide ≡ false → Leaves how starts deadlines before k → ⊥
+    fills-shut n p = let x = f .shut n in omega (arith, x .2, p .2 .ends (x .0) (x .1), p .1 .begun (x .0) (x .1))
 
   -- ---- the search
   pub halve-up : (low high mid : ℕ) → Narrowed (Leaves how starts deadlines before) low high → (Leaves how starts deadlines before mid → ⊥) → Narrowed (Leaves how starts deadlines before) (mid + 1) high

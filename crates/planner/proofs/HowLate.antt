@@ -24,14 +24,14 @@ use Rattle.schedule.proofs.Chains.{reads-closed, reads-loopless}
 use Rattle.schedule.proofs.Readings.{plan-one}
 use Rattle.schedule.proofs.Late.{lateness-iff, lateness-one, lateness-same, late-outset, lateness-ranged}
 use Rattle.schedule.proofs.Shortest.{shortest-iff, shortest-one, shortest-same, shortest-empty, short-outset}
-use Rattle.refusal.specs.Table.{refused, passed, One, Table}
+use Rattle.refusal.specs.Table.{check, _then_, Refuses, refused, passed, One, Table}
 use Rattle.refusal.specs.declared.Answer.{Answer}
 use Rattle.refusal.specs.Says.{Says}
 use Rattle.refusal.proofs.Table.{Each, each-map, among-each, then-table, table-one, table-past}
 use Rattle.refusal.proofs.Says.{says-more, says-only}
 use Rattle.book.specs.Told.{cores, jobs-in, row-in}
 use Rattle.planner.specs.Requests.{plan-check}
-use Rattle.planner.specs.List.{list-of, Uneven}
+use Rattle.planner.specs.List.{list-of, Uneven, entries-checks}
 use Rattle.planner.specs.Late.{Lates, late-checks, from-origin, LateAs, Latens, lone-checks, short-checks, ShortAs, Shortens}
 use Rattle.planner.specs.declared.late.Late.{Late}
 use Rattle.planner.specs.declared.late.Late.the-variants.{By, Refused}
@@ -51,7 +51,13 @@ origin-fits y h = record { sfits = go (ltb y 4096) }
     go true = omega arith
     go false = omega arith
 
--- ---- a sound list that has jobs: how late
+-- ---- how late: a list of some jobs, refused by what comes behind 14
+pub late-refused : (starts deadlines pairs : List ℕ) (n v : ℕ) → (Uneven starts deadlines pairs → ⊥) → (length starts ≡ 0 → ⊥) →
+    Refuses (check 1 0 (64 < length starts) then entries-checks starts deadlines pairs) n v → Latens starts deadlines pairs n (pos v)
+late-refused starts deadlines pairs n v even some (inl x) = refused n v (inr (even, inl x)) refl
+late-refused starts deadlines pairs n v even some (inr x) = refused n v (inr (even, inr (x .0, inr (some, x .1)))) refl
+
+-- ---- a sound list that has jobs
 module _ (starts deadlines pairs : List ℕ) (s : Sound starts deadlines pairs) (J : Jobs) (r : Reads (list-of starts deadlines pairs) J) where
   limits : InLimits J (written (list-of starts deadlines pairs))
   unfolding written

@@ -16,7 +16,7 @@ use Rattle.schedule.proofs.Early.{exists-earliest}
 use Rattle.schedule.proofs.Chains.{reads-closed, reads-loopless}
 use Rattle.schedule.proofs.Renumber.{latest-along}
 use Rattle.book.specs.Told.{jobs-in, row-in}
-use Rattle.refusal.specs.Table.{Checks, _then_, places, Clear, Refuses, Table, refused, passed}
+use Rattle.refusal.specs.Table.{Checks, check, _then_, places, Clear, Refuses, Table, refused, passed}
 use Rattle.planner.specs.Requests.{plan-check}
 use Rattle.planner.specs.List.{list-of, Uneven, job-at, order-at, entries-checks, rows-checks, SoundRows, Judged, judged, TurnedDown, Fitted, Judges}
 use Rattle.planner.specs.Inner.Entries.{Held, Spells}
@@ -57,6 +57,9 @@ pub record Sound (starts deadlines pairs : List ℕ) : Type 0 where
 
 pub sound-entries : (starts deadlines pairs : List ℕ) → length starts ≡ length deadlines → length starts ≤ 64 → Clear (entries-checks starts deadlines pairs) → Sound starts deadlines pairs
 sound-entries starts deadlines pairs even few c = record { even = even; few = few; jobs = c .0; held = record { below = c .1 .0 }; free = c .1 .1 }
+
+pub sound-counted : (starts deadlines pairs : List ℕ) → (Uneven starts deadlines pairs → ⊥) → Clear (check 1 0 (64 < length starts) then entries-checks starts deadlines pairs) → Sound starts deadlines pairs
+sound-counted starts deadlines pairs even c = sound-entries starts deadlines pairs (even-by starts deadlines pairs even) (le-by _ 64 (c .0)) (c .1)
 
 module _ (starts deadlines pairs : List ℕ) (s : Sound starts deadlines pairs) where
   pub formed : Formed (list-of starts deadlines pairs)

@@ -30,12 +30,18 @@ pub fn uneven(starts: &[u16], deadlines: &[u16], pairs: &[u16]) -> bool
     pairs.len() % 2 == 1
 }
 
-// The first fault of the jobs, then of the pairs, then of the loops that these close; where there is none, the rows say which job precedes which.
+// The first fault: more than 64 jobs, then that of a job, of a pair, of the loop that a pair closes; where there is none, the rows say which job precedes which.
 pub fn faulty(starts: &[u16], deadlines: &[u16], pairs: &[u16], rows: &mut [u64; 64]) -> Found
-    requires { ⌜ (length (now starts) ≡ length (now deadlines)) × (length (now starts) ≤ 64) × Spells (now pairs) 0 (now rows) ⌝ }
+    requires { ⌜ (length (now starts) ≡ length (now deadlines)) × Spells (now pairs) 0 (now rows) ⌝ }
     ensures { λ r. ⌜ Checked (now (starts .entry)) (now (deadlines .entry)) (now (pairs .entry)) (now (rows .exit)) (r .number) (r .place) ⌝ }
 {
     let size = starts.len();
+    if size > 64 {
+        return Found {
+            number: 1,
+            place: 0,
+        };
+    }
     let job = unsound_job(starts, deadlines);
     if job.number != 0 {
         return job;

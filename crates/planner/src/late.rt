@@ -33,11 +33,7 @@ pub fn lateness(starts: &[u16], deadlines: &[u16], pairs: &[u16]) -> Late
     if entries::uneven(starts, deadlines, pairs) {
         return Late::Refused(7, 0);
     }
-    let size = starts.len();
-    if size > 64 {
-        return Late::Refused(1, 0);
-    }
-    if size == 0 {
+    if starts.len() == 0 {
         return Late::Refused(14, 0);
     }
     let mut rows = [0u64; 64];
@@ -55,9 +51,6 @@ pub fn shortest(starts: &[u16], deadlines: &[u16], pairs: &[u16]) -> Answer
 {
     if entries::uneven(starts, deadlines, pairs) {
         return Answer::Refused(7, 0);
-    }
-    if starts.len() > 64 {
-        return Answer::Refused(1, 0);
     }
     let mut rows = [0u64; 64];
     let found = entries::faulty(starts, deadlines, pairs, &mut rows);
@@ -118,20 +111,27 @@ fn leaves<'a>(
     ensures { λ r. ⌜ Whether (Leaves how (now (starts .entry)) (now (deadlines .entry)) (now (before .entry)) k) r ⌝ }
 {
     let mut row = [0u16; 64];
-    fill(deadlines, how, k, &mut row);
-    tighten::tighten(starts.len(), starts, before, Pending::none(), &mut row)
+    if fill(starts, deadlines, how, k, &mut row) {
+        return tighten::tighten(starts.len(), starts, before, Pending::none(), &mut row);
+    }
+    false
 }
 
-// The deadlines tried at a number, in a row.
-fn fill(deadlines: &[u16], how: Trial, k: usize, row: &mut [u16; 64])
-    requires { ⌜ (length (now deadlines) ≤ 64) × ((i : ℕ) → i < length (now deadlines) → getD (now deadlines) i 0 ≤ 4096) × (length (now row) ≡ 64) × (k ≤ 8254) ⌝ }
-    ensures { λ _. ⌜ Fills how (now (deadlines .entry)) k (now (row .exit)) ⌝ }
+// The deadlines tried at a number, in a row; false as soon as one is not above its job's start, where no plan meets them and the engine need not be asked.
+fn fill(starts: &[u16], deadlines: &[u16], how: Trial, k: usize, row: &mut [u16; 64]) -> bool
+    requires { ⌜ (length (now starts) ≡ length (now deadlines)) × (length (now starts) ≤ 64) × ((i : ℕ) → i < length (now starts) → getD (now deadlines) i 0 ≤ 4096) × (length (now row) ≡ 64) × (k ≤ 8254) ⌝ }
+    ensures { λ r. ⌜ Fills how (now (starts .entry)) (now (deadlines .entry)) k (now (row .exit)) r ⌝ }
 {
     let mut i: usize = 0;
-    while i < deadlines.len() {
-        row[i] = tried(how, deadlines[i], k);
+    while i < starts.len() {
+        let due = tried(how, deadlines[i], k);
+        if due <= starts[i] {
+            return false;
+        }
+        row[i] = due;
         i += 1;
     }
+    true
 }
 
 // One of them; a deadline that would fall below 0 is 0, by which no job ends.

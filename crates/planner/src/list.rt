@@ -17,12 +17,8 @@ pub fn judge(starts: &[u16], deadlines: &[u16], pairs: &[u16], latest: &mut [u16
     if entries::uneven(starts, deadlines, pairs) {
         return Answer::Refused(7, 0);
     }
-    let size = starts.len();
-    if latest.len() < size {
+    if latest.len() < starts.len() {
         return Answer::Refused(7, 0);
-    }
-    if size > 64 {
-        return Answer::Refused(1, 0);
     }
     let mut rows = [0u64; 64];
     let found = entries::faulty(starts, deadlines, pairs, &mut rows);

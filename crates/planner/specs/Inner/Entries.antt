@@ -8,7 +8,7 @@ use lib.Dec.{T}
 use lib.ListN.{length, getD}
 use Rattle.schedule.specs.Listed.{Chain}
 use Rattle.sets.specs.Sets.{has}
-use Rattle.refusal.specs.Table.{places, Clear}
+use Rattle.refusal.specs.Table.{check, _then_, places, Clear}
 use Rattle.planner.specs.Requests.{loop-checks}
 use Rattle.planner.specs.List.{pairs-of, pair-at, order-at, entries-checks}
 use Rattle.planner.specs.Inner.Numbers.{Numbers}
@@ -36,7 +36,7 @@ pub record Loops (pairs rows : List ℕ) (number place : ℕ) : Type 0 where
 abbrev pub TakesIn : ℕ → ℕ → List ℕ → List ℕ → Type 0
 TakesIn a b old new = (T (has (getD old b 0) a) × (new ≡ old)) ⊎ ((length new ≡ 64) × Links a b old new)
 
--- the first fault of all; where there is none, the rows spell the chains of all pairs
+-- 1, or the first fault of the entries; where there is none, the rows spell the chains of all pairs
 pub record Checked (starts deadlines pairs rows : List ℕ) (number place : ℕ) : Type 0 where
-  pub numbers : Numbers (entries-checks starts deadlines pairs) number place
+  pub numbers : Numbers (check 1 0 (64 < length starts) then entries-checks starts deadlines pairs) number place
   pub spells : number ≡ 0 → Spells pairs (length pairs / 2) rows

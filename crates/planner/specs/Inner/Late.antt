@@ -1,8 +1,9 @@
 -- Deadlines tried at a number, and the least at which they leave a plan.
 -- Assumes nothing.
+use mathlib.Core.Bool.{Bool, true, false}
 use mathlib.Core.List.{List}
 use mathlib.Core.Path.{_≡_}
-use Prim.Native.Nat.{ℕ, min, _+_, _-_, _<_}
+use Prim.Native.Nat.{ℕ, min, _+_, _-_, _≤_, _<_}
 use lib.ListN.{length, getD}
 use Rattle.schedule.specs.Plan.{HasPlan}
 use Rattle.schedule.specs.Shortest.{Shortest}
@@ -16,10 +17,11 @@ abbrev pub tried-of : Trial → ℕ → ℕ → ℕ
 tried-of Moved deadline k = deadline + k - 4096
 tried-of Capped deadline k = min deadline k
 
--- the deadlines tried, in a row of 64
-pub record Fills (how : Trial) (deadlines : List ℕ) (k : ℕ) (row : List ℕ) : Type 0 where
+-- the deadlines tried, in a row of 64; or one of them is not above its job's start
+pub record Fills (how : Trial) (starts deadlines : List ℕ) (k : ℕ) (row : List ℕ) (wide : Bool) : Type 0 where
   pub long : length row ≡ 64
-  pub tries : (i : ℕ) → i < length deadlines → getD row i 0 ≡ tried-of how (getD deadlines i 0) k
+  pub tries : wide ≡ true → (i : ℕ) → i < length starts → getD row i 0 ≡ tried-of how (getD deadlines i 0) k
+  pub shut : wide ≡ false → (i : ℕ) × (i < length starts) × (tried-of how (getD deadlines i 0) k ≤ getD starts i 0)
 
 -- some plan meets the deadlines tried at k
 abbrev pub Leaves : Trial → List ℕ → List ℕ → List ℕ → ℕ → Type 0

@@ -40,7 +40,7 @@ mul-needed : tie.Need-mul-needed
 mul-needed c = omega (arith, few c)
 
 returns : tie.Need-returns
-returns c = (omega arith, short-writes _ _ _ (needed (c .before)) (c .if1 .taken))
+returns c = (omega arith, short-writes _ _ _ (needed (c .before)) (omega (arith, c .if1 .taken)))
 
 starts-requires : tie.Need-starts-requires
 starts-requires c κs = search needs

@@ -7,7 +7,7 @@ use borrow.Author.Needs.{needs}
 use Rattle.refusal.specs.Table.{refused}
 use Rattle.planner.specs.List.{Uneven}
 use Rattle.planner.proofs.Pairs.{spells-none}
-use Rattle.planner.proofs.ListSound.{Sound, even-by, sound-entries, sound-judgeable}
+use Rattle.planner.proofs.ListSound.{Sound, even-by, sound-counted, sound-judgeable}
 use Rattle.planner.proofs.HowLate.{ends-shortens}
 use Rattle.planner.proofs.late.shortest.Statement.{statement}
 use Rattle.planner.proofs.late.shortest.Tie as tie
@@ -17,11 +17,11 @@ shape : (c : tie.Else1) → let a = c .before .before .before .before .before .a
 shape c = c .before .uneven .ensures .no (c .if1 .left)
 
 -- past all checks but the last
-sound : (c : tie.Else3) → let a = c .before .before .before .before .before .before .before .before .before .before .args in Sound (a .starts .now) (a .deadlines .now) (a .pairs .now)
+sound : (c : tie.Else2) → let a = c .before .before .before .before .before .before .before .before .before .args in Sound (a .starts .now) (a .deadlines .now) (a .pairs .now)
 sound c =
-    let e = c .before .before .before .before .before in
+    let e = c .before .before .before .before in
     let a = e .before .before .before .before .before .args in
-    sound-entries (a .starts .now) (a .deadlines .now) (a .pairs .now) (even-by (a .starts .now) (a .deadlines .now) (a .pairs .now) (shape e)) (omega arith) (c .before .before .faulty .ensures .numbers .none (c .if3 .left))
+    sound-counted (a .starts .now) (a .deadlines .now) (a .pairs .now) (shape e) (c .before .before .faulty .ensures .numbers .none (c .if2 .left))
 
 uneven-requires : tie.Need-uneven-requires
 uneven-requires c κs = search needs
@@ -29,30 +29,23 @@ uneven-requires c κs = search needs
 returns : tie.Need-returns
 returns c = (omega arith, refused _ _ (inl (inl (c .before .uneven .ensures .yes (c .if1 .taken), refl, refl))) refl)
 
-returns-2 : tie.Need-returns-2
-returns-2 c = (omega arith, refused _ _ (inl (inr (shape (c .before), inl (c .if2 .taken, refl, refl)))) refl)
-
 faulty-requires : tie.Need-faulty-requires
 faulty-requires c κs =
-    let e = c .before .before in
+    let e = c .before in
     let a = e .before .before .before .before .before .args in
-    (even-by (a .starts .now) (a .deadlines .now) (a .pairs .now) (shape e), omega arith, spells-none _)
+    (even-by (a .starts .now) (a .deadlines .now) (a .pairs .now) (shape e), spells-none _)
+
+returns-2 : tie.Need-returns-2
+returns-2 c = (omega (arith, c .if2 .taken), refused _ _ (inl (inr (shape (c .before .before .before .before), c .before .before .faulty .ensures .numbers .some (c .if2 .taken)))) refl)
+
+shorten-requires : tie.Need-shorten-requires
+shorten-requires c κs = let e = c .before in sound-judgeable _ _ _ _ (sound e) (e .before .before .faulty .ensures .spells (e .if2 .left))
 
 returns-3 : tie.Need-returns-3
 returns-3 c =
-    let e = c .before .before .before .before in (
-      omega (arith, c .if3 .taken),
-      refused _ _ (inl (inr (shape (e .before), inr ((λ g. omega arith), c .before .before .faulty .ensures .numbers .some (c .if3 .taken))))) refl,
-    )
-
-shorten-requires : tie.Need-shorten-requires
-shorten-requires c κs = let e = c .before in sound-judgeable _ _ _ _ (sound e) (e .before .before .faulty .ensures .spells (e .if3 .left))
-
-returns-4 : tie.Need-returns-4
-returns-4 c =
     let e = c .before .before in
     let f = e .before .before in
-    ends-shortens _ _ _ _ (sound e) (f .faulty .ensures .spells (e .if3 .left)) (shape (f .before .before .before)) (c .shorten .result) (c .shorten .ensures)
+    ends-shortens _ _ _ _ (sound e) (f .faulty .ensures .spells (e .if2 .left)) (shape (f .before .before)) (c .shorten .result) (c .shorten .ensures)
 
 pub shortest-spec : {M : Type 1} → statement M
 shortest-spec =
@@ -60,8 +53,7 @@ shortest-spec =
     (tie.spec
     uneven-requires
     returns
-    returns-2
     faulty-requires
-    returns-3
+    returns-2
     shorten-requires
-    returns-4)
+    returns-3)

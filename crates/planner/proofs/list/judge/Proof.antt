@@ -7,7 +7,7 @@ use borrow.Author.Needs.{needs}
 use Rattle.planner.specs.List.{Misshapen}
 use Rattle.refusal.specs.Table.{refused}
 use Rattle.planner.proofs.Pairs.{spells-none}
-use Rattle.planner.proofs.ListSound.{Sound, even-by, sound-entries, sound-judgeable, settles-says}
+use Rattle.planner.proofs.ListSound.{Sound, even-by, sound-counted, sound-judgeable, settles-says}
 use Rattle.planner.proofs.list.judge.Statement.{statement}
 use Rattle.planner.proofs.list.judge.Tie as tie
 
@@ -16,11 +16,11 @@ shape : (c : tie.Else2) → let a = c .before .before .before .before .before .b
 shape c m = ⊎-elim (c .before .before .uneven .ensures .no (c .before .if1 .left)) (λ g. omega (arith, c .if2 .left)) m
 
 -- past all checks but the last
-sound : (c : tie.Else4) → let a = c .before .before .before .before .before .before .before .before .before .before .before .before .args in Sound (a .starts .now) (a .deadlines .now) (a .pairs .now)
+sound : (c : tie.Else3) → let a = c .before .before .before .before .before .before .before .before .before .before .before .args in Sound (a .starts .now) (a .deadlines .now) (a .pairs .now)
 sound c =
     let e = c .before .before .before .before in
-    let a = e .before .before .before .before .before .before .before .before .args in
-    sound-entries (a .starts .now) (a .deadlines .now) (a .pairs .now) (even-by (a .starts .now) (a .deadlines .now) (a .pairs .now) (e .before .before .before .uneven .ensures .no (e .before .before .if1 .left))) (e .if3 .left) (c .before .before .faulty .ensures .numbers .none (c .if4 .left))
+    let a = e .before .before .before .before .before .before .before .args in
+    sound-counted (a .starts .now) (a .deadlines .now) (a .pairs .now) (e .before .before .uneven .ensures .no (e .before .if1 .left)) (c .before .before .faulty .ensures .numbers .none (c .if3 .left))
 
 uneven-requires : tie.Need-uneven-requires
 uneven-requires c κs = search needs
@@ -31,39 +31,32 @@ returns c = (omega arith, refused _ _ (inl (inl (inl (c .before .uneven .ensures
 returns-2 : tie.Need-returns-2
 returns-2 c = (omega arith, refused _ _ (inl (inl (inr (c .if2 .taken), refl, refl))) refl)
 
-returns-3 : tie.Need-returns-3
-returns-3 c = (omega arith, refused _ _ (inl (inr (shape (c .before), inl (c .if3 .taken, refl, refl)))) refl)
-
 faulty-requires : tie.Need-faulty-requires
 faulty-requires c κs =
     let e = c .before in
-    let a = e .before .before .before .before .before .before .before .before .args in
-    (even-by (a .starts .now) (a .deadlines .now) (a .pairs .now) (e .before .before .before .uneven .ensures .no (e .before .before .if1 .left)), e .if3 .left, spells-none _)
+    let a = e .before .before .before .before .before .before .before .args in
+    (even-by (a .starts .now) (a .deadlines .now) (a .pairs .now) (e .before .before .uneven .ensures .no (e .before .if1 .left)), spells-none _)
 
-returns-4 : tie.Need-returns-4
-returns-4 c =
-    let e = c .before .before .before .before in (
-      omega (arith, c .if4 .taken),
-      refused _ _ (inl (inr (shape (e .before), inr ((λ g. omega (arith, e .if3 .left)), c .before .before .faulty .ensures .numbers .some (c .if4 .taken))))) refl,
-    )
+returns-3 : tie.Need-returns-3
+returns-3 c = (omega (arith, c .if3 .taken), refused _ _ (inl (inr (shape (c .before .before .before .before), c .before .before .faulty .ensures .numbers .some (c .if3 .taken)))) refl)
 
 settle-requires : tie.Need-settle-requires
 settle-requires c κs =
     let e = c .before .before in
-    (sound-judgeable _ _ _ _ (sound e) (e .before .before .faulty .ensures .spells (e .if4 .left)), search needs)
+    (sound-judgeable _ _ _ _ (sound e) (e .before .before .faulty .ensures .spells (e .if3 .left)), search needs)
 
 same-length : tie.Need-same-length
 same-length c = search needs
 
-returns-5 : tie.Need-returns-5
-returns-5 c =
+returns-4 : tie.Need-returns-4
+returns-4 c =
     let t = c .before .before in
     let e = t .before .before .before in
     let f = e .before .before in
     let g = f .before .before in
-    let a = g .before .before .before .before .before .before .before .before .args in
-    settles-says (a .starts .now) (a .deadlines .now) (a .pairs .now) _ (sound e) (f .faulty .ensures .spells (e .if4 .left)) (a .latest .now) _ (t .settle .result)
-    (shape (g .before), ((λ x. omega (arith, g .if3 .left)), f .faulty .ensures .numbers .none (e .if4 .left))) (t .settle .ensures)
+    let a = g .before .before .before .before .before .before .before .args in
+    settles-says (a .starts .now) (a .deadlines .now) (a .pairs .now) _ (sound e) (f .faulty .ensures .spells (e .if3 .left)) (a .latest .now) _ (t .settle .result)
+    (shape g, f .faulty .ensures .numbers .none (e .if3 .left)) (t .settle .ensures)
 
 pub judge-spec : {M : Type 1} → statement M
 judge-spec =
@@ -72,9 +65,8 @@ judge-spec =
     uneven-requires
     returns
     returns-2
-    returns-3
     faulty-requires
-    returns-4
+    returns-3
     settle-requires
     same-length
-    returns-5)
+    returns-4)
