@@ -1,9 +1,9 @@
 //! How late whole lists are, and how short their plans can be: by the rule, and by every layout there is.
 use crate::lent;
 use crate::lists::spoil;
+use crate::printed::{Tally, hold, rows_of};
 use crate::random::Random;
 use crate::reference::{self, Answer, Book, List};
-use crate::printed::{Tally, hold, rows_of};
 
 /// A lateness, or the number of the refusal and what is returned with it.
 type Lateness = Result<i32, (u8, usize)>;
