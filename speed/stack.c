@@ -12,6 +12,7 @@ enum { EMPTY, NEARLY, LOOSE, ORDERED, PACKED, BOOKS }; /* no job; 63; 64; 64 and
 static struct planner_book books[BOOKS], held;
 static uint8_t plan[PLANNER_PLAN_BYTES], file[PLANNER_FILE_BYTES];
 static uint16_t starts[64], deadlines[64], pairs[126], latest[64];
+static int16_t late;
 static size_t value, at, length;
 static uint8_t number;
 
@@ -22,6 +23,8 @@ static void job(void) { number = planner_add_job(&held, 0, 40, &value); }
 static void order(void) { number = planner_add_order(&held, 60, 61, &value); }
 static void drawn(void) { number = planner_draw_in(&held, 63, 20, &value); }
 static void judged(void) { number = planner_judge(starts, 64, deadlines, 64, pairs, 126, latest, 64, &value); }
+static void lateness(void) { number = planner_lateness(starts, 64, deadlines, 64, pairs, 126, &late, &value); }
+static void shortest(void) { number = planner_shortest(starts, 64, deadlines, 64, pairs, 126, &value); }
 static void planned(void) { number = planner_plan(&held, plan, sizeof plan, &value); }
 static void placed(void) { number = planner_place(&held, 63, &(struct planner_seat){0}); }
 static void read_order(void) { number = planner_read(&held, file, length, &at, &value); }
@@ -89,6 +92,8 @@ int main(void) {
     tell("add_order", order, floor);
     tell("draw_in", drawn, floor);
     tell("judge", judged, floor);
+    tell("lateness", lateness, floor);
+    tell("shortest", shortest, floor);
     tell("plan", planned, floor);
     tell("place", placed, floor);
     tell("read", read_order, floor);

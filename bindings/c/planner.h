@@ -23,6 +23,7 @@
  *   11  offset past the end, or 1 to 5 bytes left                             the offset
  *   12  order whose second job is not held                                    as 5
  *   13  order of a job before itself                                          as 5
+ *   14  lateness of an empty list                                             0
  *
  * A refusal leaves the book and every lent row, byte and number as it was, but for *value and, where planner_read
  * read a request that is then refused, for the offset. planner_open, planner_is_book and planner_class refuse nothing.
@@ -33,7 +34,7 @@
 #include <stddef.h>
 #include <stdint.h>
 
-#define PLANNER_VERSION 10000 /* 1.0.0: 10,000 times the first number, 100 times the second, and the third */
+#define PLANNER_VERSION 10100 /* 1.1.0: 10,000 times the first number, 100 times the second, and the third */
 
 #ifdef __cplusplus
 extern "C" {
@@ -78,6 +79,9 @@ uint8_t firmware_add_job(uint16_t *, uint64_t *, uint16_t, uint16_t, size_t *);
 uint8_t firmware_add_order(uint16_t *, uint64_t *, uint16_t, uint16_t, size_t *);
 uint8_t firmware_draw_in(uint16_t *, uint64_t *, uint16_t, uint16_t, size_t *);
 uint8_t firmware_judge(const uint16_t *, size_t, const uint16_t *, size_t, const uint16_t *, size_t, uint16_t *, size_t, size_t *);
+uint8_t firmware_lateness(const uint16_t *, size_t, const uint16_t *, size_t, const uint16_t *, size_t, int16_t *,
+                          size_t *);
+uint8_t firmware_shortest(const uint16_t *, size_t, const uint16_t *, size_t, const uint16_t *, size_t, size_t *);
 uint8_t firmware_plan(const uint16_t *, const uint64_t *, uint8_t *, size_t, size_t *);
 uint8_t firmware_place(const uint16_t *, const uint64_t *, uint16_t, size_t *, size_t *, size_t *, size_t *);
 uint8_t firmware_read(uint16_t *, uint64_t *, const uint8_t *, size_t, size_t *, size_t *);
@@ -119,6 +123,30 @@ static inline uint8_t planner_judge(const uint16_t *starts, size_t starts_length
     uint16_t none = 0, nowhere = 0;
     return firmware_judge(starts ? starts : &none, starts_length, deadlines ? deadlines : &none, deadlines_length,
                           pairs ? pairs : &none, pairs_length, latest ? latest : &nowhere, latest_length, value);
+}
+
+/* The least maximum lateness of a whole list, to *lateness: a job's lateness is its end minus its deadline, a plan's is
+ * the greatest of its jobs', and this is the least of all valid plans', deadlines met or not. It is also the least
+ * number of slots by which all deadlines can be moved, past 4,096 too, so that a valid plan meets them: above 0 where
+ * the list does not fit. From -4,095 to 4,158; *value is 0. 7, 1, 14; then 2, 3 job by job; then 5, 12 pair by pair;
+ * then 13 or 6; never 4. A refusal leaves *lateness. */
+static inline uint8_t planner_lateness(const uint16_t *starts, size_t starts_length, const uint16_t *deadlines,
+                                       size_t deadlines_length, const uint16_t *pairs, size_t pairs_length,
+                                       int16_t *lateness, size_t *value) {
+    uint16_t none = 0;
+    return firmware_lateness(starts ? starts : &none, starts_length, deadlines ? deadlines : &none, deadlines_length,
+                             pairs ? pairs : &none, pairs_length, lateness, value);
+}
+
+/* The shortest finishing time among the valid plans of a whole list that meet the deadlines, to *value; 0 for an empty
+ * list. The plan that planner_plan makes may finish later. 7, 1; then 2, 3 job by job; then 5, 12 pair by pair; then 13
+ * or 6; then 4. */
+static inline uint8_t planner_shortest(const uint16_t *starts, size_t starts_length, const uint16_t *deadlines,
+                                       size_t deadlines_length, const uint16_t *pairs, size_t pairs_length,
+                                       size_t *value) {
+    uint16_t none = 0;
+    return firmware_shortest(starts ? starts : &none, starts_length, deadlines ? deadlines : &none, deadlines_length,
+                             pairs ? pairs : &none, pairs_length, value);
 }
 
 /* The plan: two bytes a slot, core 0 first, PLANNER_IDLE for an idle core; *value is the finishing time in slots.

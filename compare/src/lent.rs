@@ -147,20 +147,60 @@ impl LentBook {
     }
 }
 
-pub fn judge(starts: &[u16], deadlines: &[u16], pairs: &[u16], latest: &mut Lent<u16>) -> Answer {
-    let guard = latest.guard;
-    let lend = |row: &[u16]| Lent::new(row, 0x0101, guard);
-    let (mut starts, mut deadlines, mut pairs) = (lend(starts), lend(deadlines), lend(pairs));
-    let mut value = Lent::new(&[UNSET], UNSET, guard);
-    let (s, d, p, l) = (starts.row().len(), deadlines.row().len(), pairs.row().len(), latest.row().len());
-    let number = unsafe {
-        raw::firmware_judge(starts.lend(), s, deadlines.lend(), d, pairs.lend(), p, latest.lend(), l, value.lend())
-    };
-    if !value.kept() {
-        return Err((number, UNSET));
+/// The rows of a whole list, lent to be read, and the place for a value.
+struct Rows {
+    given: [Vec<u16>; 3],
+    lent: [Lent<u16>; 3],
+    value: Lent<usize>,
+}
+
+impl Rows {
+    fn new(rows: [&[u16]; 3], guard: usize) -> Rows {
+        let lent = rows.map(|row| Lent::new(row, 0x0101, guard));
+        Rows { given: rows.map(|row| row.to_vec()), lent, value: Lent::new(&[UNSET], UNSET, guard) }
     }
-    let value = value.row()[0];
-    if number == 0 { Ok(value) } else { Err((number, value)) }
+
+    fn lend(&mut self) -> [(*const u16, usize); 3] {
+        self.lent.each_mut().map(|row| (row.lend().cast_const(), row.row().len()))
+    }
+
+    /// The answer; no value where more was written than the value.
+    fn answer(&self, number: u8) -> Answer {
+        let stayed = self.lent.iter().zip(&self.given).all(|(lent, given)| lent.kept() && lent.row() == given);
+        let value = if stayed && self.value.kept() { self.value.row()[0] } else { UNSET };
+        if number == 0 { Ok(value) } else { Err((number, value)) }
+    }
+}
+
+pub fn judge(starts: &[u16], deadlines: &[u16], pairs: &[u16], latest: &mut Lent<u16>) -> Answer {
+    let mut rows = Rows::new([starts, deadlines, pairs], latest.guard);
+    let [(starts, s), (deadlines, d), (pairs, p)] = rows.lend();
+    let (row, l, value) = (latest.lend(), latest.row().len(), rows.value.lend());
+    let number = unsafe { raw::firmware_judge(starts, s, deadlines, d, pairs, p, row, l, value) };
+    rows.answer(number)
+}
+
+/// No lateness.
+const NEVER: i16 = 0x5e7e;
+
+pub fn lateness(starts: &[u16], deadlines: &[u16], pairs: &[u16], guard: usize) -> Result<i32, (u8, usize)> {
+    let mut rows = Rows::new([starts, deadlines, pairs], guard);
+    let mut late = Lent::new(&[NEVER], NEVER, guard);
+    let [(starts, s), (deadlines, d), (pairs, p)] = rows.lend();
+    let (told, value) = (late.lend(), rows.value.lend());
+    let number = unsafe { raw::firmware_lateness(starts, s, deadlines, d, pairs, p, told, value) };
+    match (rows.answer(number), late.row()[0]) {
+        (Ok(0), told) if told != NEVER && late.kept() => Ok(told as i32),
+        (Err(refusal), NEVER) if late.kept() => Err(refusal),
+        _ => Err((number, UNSET)),
+    }
+}
+
+pub fn shortest(starts: &[u16], deadlines: &[u16], pairs: &[u16], guard: usize) -> Answer {
+    let mut rows = Rows::new([starts, deadlines, pairs], guard);
+    let [(starts, s), (deadlines, d), (pairs, p)] = rows.lend();
+    let number = unsafe { raw::firmware_shortest(starts, s, deadlines, d, pairs, p, rows.value.lend()) };
+    rows.answer(number)
 }
 
 pub fn class(number: u8) -> u8 {

@@ -1,13 +1,13 @@
 //! Whole lists, and everything that a book can be asked.
 use crate::lent::{self, Lent, LentBook};
-use crate::printed::{Tally, hold, keyed, requests_of};
+use crate::printed::{Tally, hold, keyed, requests_of, rows_of};
 use crate::random::Random;
 use crate::reference::{self, Answer, Book, List};
 
 /// A random list, judged at once; where it has a plan, its book by requests, its plan, its places and its file.
 pub fn whole_list(random: &mut Random, guard: usize, tally: &mut Tally) {
     let mut list = random.list();
-    let mut pairs: Vec<u16> = list.orders.iter().flat_map(|&(a, b)| [a as u16, b as u16]).collect();
+    let mut pairs = list.pairs();
     if random.one_in(10) {
         spoil(random, &mut list, &mut pairs);
     }
@@ -38,14 +38,14 @@ pub fn judge(list: &List, pairs: &[u16], filled: &[u16], guard: usize) -> Answer
     let wanted = reference::judge(&list.starts, &list.deadlines, pairs, &mut want);
     let mut row = Lent::new(filled, 0xeeee, guard);
     let got = lent::judge(&list.starts, &list.deadlines, pairs, &mut row);
-    let text = || format!("{}pairs {pairs:?}", keyed(requests_of(&List { orders: vec![], ..list.clone() })));
+    let text = || rows_of(list, pairs);
     hold(wanted == got && row.kept(), "judge", &wanted, &got, &text);
     hold(row.row() == want, "latest times", &want, &row.row(), &text);
     wanted
 }
 
 /// One or two faults: wild numbers, loops, jobs not held, rows of unequal length, too many jobs.
-fn spoil(random: &mut Random, list: &mut List, pairs: &mut Vec<u16>) {
+pub fn spoil(random: &mut Random, list: &mut List, pairs: &mut Vec<u16>) {
     for _ in 0..1 + random.below(2) {
         let n = list.size();
         match random.below(8) {
@@ -73,11 +73,12 @@ fn every_layout(list: &List, made: Option<(Book, LentBook)>) {
     let accepted = made.is_some();
     let (latest, plan) = made.map_or((vec![], vec![]), |(book, mut held)| (book.latest, slots_made(&mut held, list)));
     let (mut any, mut met) = (false, false);
-    reference::every_layout(list, &mut |slots| {
+    reference::any_layout(list, &|due| due, &mut |slots| {
         let in_time = slots.iter().zip(&latest).all(|(&slot, &time)| slot < time);
         hold(!accepted || in_time, "every layout keeps the latest times", &latest, &slots, &text);
         any = true;
         met |= slots == plan;
+        false
     });
     hold(any == accepted, "some layout meets the deadlines", &any, &accepted, &text);
     hold(met || !accepted, "the plan made is one of the layouts", &"one of them", &plan, &text);

@@ -1,8 +1,10 @@
-//! The proved planner against document 01 written a second time, on random lists, runs of requests and files.
+//! The proved planner against documents 01 and 02 (A1, A2) written a second time, on random lists, runs of requests and
+//! files.
 //!
 //!     compare LISTS SEED [exact]
 //!
 //! `exact` lends rows without guard cells, for a run under valgrind. A disagreement is printed as keyed text.
+mod late;
 mod lent;
 mod lists;
 mod printed;
@@ -23,6 +25,8 @@ fn main() {
     let mut tally = Tally::default();
     small::classes();
     small::small_lists(guard);
+    late::known(guard);
+    late::sweep(guard, &mut tally);
     for k in 0..count {
         let random = &mut Random::new(seed * 1_000_003 + k);
         lists::whole_list(random, guard, &mut tally);
@@ -32,9 +36,11 @@ fn main() {
         if k % 3 == 0 {
             runs::file(random, guard, &mut tally);
         }
+        late::random_list(random, guard, &mut tally);
     }
     println!("{tally:?}");
-    if count >= 1000 && (3 * tally.with_plan < count || 3 * tally.without < count) {
+    let few = 3 * tally.with_plan < count || 3 * tally.without < count || tally.late.iter().any(|n| 20 * n < count);
+    if count >= 1000 && few {
         println!("compare: the lists are too much of one kind");
         exit(1);
     }

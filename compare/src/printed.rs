@@ -15,6 +15,15 @@ pub struct Tally {
     /// rows that are no book, and rows that are one
     pub books: [u64; 2],
     pub refusals: [u64; 14],
+    /// how late and how short: lists with one fault after the other
+    pub swept: u64,
+    /// how late: below 0, 0, above 0
+    pub late: [u64; 3],
+    /// how short: as the plan made, shorter
+    pub short: [u64; 2],
+    /// how late and how short, by every layout too
+    pub late_layouts: u64,
+    pub late_refusals: [u64; 15],
 }
 
 impl Tally {
@@ -38,6 +47,12 @@ pub fn requests_of(list: &List) -> Vec<Request> {
     let jobs = list.starts.iter().zip(&list.deadlines).map(|(&s, &d)| Request::Job(s, d));
     let orders = list.orders.iter().map(|&(a, b)| Request::Before(a as u16, b as u16));
     jobs.chain(orders).collect()
+}
+
+/// The rows of a whole list, sound or not.
+pub fn rows_of(list: &List, pairs: &[u16]) -> String {
+    let jobs = keyed(requests_of(&List { orders: vec![], ..list.clone() }));
+    format!("{jobs}{} starts, {} deadlines, pairs {pairs:?}", list.starts.len(), list.deadlines.len())
 }
 
 /// Prints the disagreement and ends.

@@ -66,6 +66,16 @@ impl Random {
         list
     }
 
+    /// Some jobs later, and some due later, so that a list is late by much, or early.
+    pub fn apart(&mut self, list: &mut List) {
+        let by = if self.one_in(200) { self.below(4096) } else { self.below(8) } as u16;
+        for (start, deadline) in list.starts.iter_mut().zip(&mut list.deadlines) {
+            let (later, due_later) = (self.one_in(3), self.one_in(2));
+            *start = (*start + by * later as u16).min(4095);
+            *deadline = (*deadline + by * (later || due_later) as u16).min(4096);
+        }
+    }
+
     fn wild(&mut self) -> u16 {
         [0, 1, 63, 64, 255, 256, 4094, 4095, 4096, 4097, 32768, 65535][self.below(12)]
     }

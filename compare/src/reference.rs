@@ -1,4 +1,5 @@
-//! Document 01 a second time, in plain Rust, written from its text alone: no sets in bits, no short ways.
+//! Documents 01 and 02 (A1, A2) a second time, in plain Rust, written from their text alone: no sets in bits, no short
+//! ways.
 //! A book keeps the whole list as told and works out its latest times from nothing after each request.
 
 pub const JOBS: usize = 64;
@@ -44,6 +45,11 @@ impl List {
         self.starts.len()
     }
 
+    /// The orders laid flat.
+    pub fn pairs(&self) -> Vec<u16> {
+        self.orders.iter().flat_map(|&(a, b)| [a as u16, b as u16]).collect()
+    }
+
     pub fn precedes(&self) -> Precedes {
         let n = self.size();
         let mut precedes = vec![vec![false; n]; n];
@@ -74,14 +80,30 @@ impl List {
 
     /// The greatest consistent row nowhere above the deadlines, or none.
     pub fn latest(&self, precedes: &Precedes) -> Option<Vec<u16>> {
-        let small = self.size() <= 8 && self.deadlines.iter().all(|&d| d <= 12);
-        self.settled(precedes, if small { literal } else { counted })
+        self.settled(precedes, self.look())
     }
 
-    /// The rule until nothing moves, by one way or the other to look at a job.
+    /// Whether a valid plan meets other deadlines, each made of the one told: the rule on them.
+    pub fn fits(&self, precedes: &Precedes, due: impl Fn(i32) -> i32) -> bool {
+        let row = self.deadlines.iter().map(|&d| due(d as i32)).collect();
+        self.beneath(row, precedes, self.look()).is_some()
+    }
+
+    fn look(&self) -> Look {
+        let small = self.size() <= 8 && self.deadlines.iter().all(|&d| d <= 12);
+        if small { literal } else { counted }
+    }
+
+    /// The latest times by one way or the other to look at a job.
     pub fn settled(&self, precedes: &Precedes, look: Look) -> Option<Vec<u16>> {
+        let row = self.deadlines.iter().map(|&d| d as i32).collect();
+        let row = self.beneath(row, precedes, look)?;
+        Some(row.iter().map(|&d| d as u16).collect())
+    }
+
+    /// The rule on a row until nothing moves.
+    fn beneath(&self, mut row: Vec<i32>, precedes: &Precedes, look: Look) -> Option<Vec<i32>> {
         let earliest = self.earliest(precedes);
-        let mut row: Vec<i32> = self.deadlines.iter().map(|&d| d as i32).collect();
         let mut moved = true;
         while moved {
             moved = false;
@@ -97,7 +119,7 @@ impl List {
                 }
             }
         }
-        Some(row.iter().map(|&d| d as u16).collect())
+        Some(row)
     }
 }
 
@@ -341,15 +363,9 @@ fn loopless(precedes: &Precedes, first: usize, second: usize, place: usize) -> R
     Ok(())
 }
 
-/// The whole list at once; pairs "first, second" laid flat.
-pub fn judge(starts: &[u16], deadlines: &[u16], pairs: &[u16], latest: &mut [u16]) -> Answer {
+/// The checks of a whole list once its rows belong together, and the list; pairs "first, second" laid flat.
+fn sound(starts: &[u16], deadlines: &[u16], pairs: &[u16]) -> Result<(List, Precedes), (u8, usize)> {
     let n = starts.len();
-    if n != deadlines.len() || pairs.len() % 2 == 1 || latest.len() < n {
-        return Err((7, 0));
-    }
-    if n > JOBS {
-        return Err((1, 0));
-    }
     for job in 0..n {
         unsound(starts[job], deadlines[job], job)?;
     }
@@ -364,9 +380,39 @@ pub fn judge(starts: &[u16], deadlines: &[u16], pairs: &[u16], latest: &mut [u16
         list.orders.push((a, b));
         order(&mut precedes, a, b);
     }
+    Ok((list, precedes))
+}
+
+/// The whole list at once.
+pub fn judge(starts: &[u16], deadlines: &[u16], pairs: &[u16], latest: &mut [u16]) -> Answer {
+    let n = starts.len();
+    if n != deadlines.len() || pairs.len() % 2 == 1 || latest.len() < n {
+        return Err((7, 0));
+    }
+    if n > JOBS {
+        return Err((1, 0));
+    }
+    let (list, precedes) = sound(starts, deadlines, pairs)?;
     let row = list.latest(&precedes).ok_or((4, 0))?;
     latest[..n].copy_from_slice(&row);
     Ok(0)
+}
+
+/// The checks where no row receives; an empty list has no lateness.
+pub fn asked(
+    starts: &[u16],
+    deadlines: &[u16],
+    pairs: &[u16],
+    lateness: bool,
+) -> Result<(List, Precedes), (u8, usize)> {
+    if starts.len() != deadlines.len() || pairs.len() % 2 == 1 {
+        return Err((7, 0));
+    }
+    match starts.len() {
+        0 if lateness => Err((14, 0)),
+        0..=JOBS => sound(starts, deadlines, pairs),
+        _ => Err((1, 0)),
+    }
 }
 
 /// Whether two rows are a book made by requests: the book of the list that they spell, that is.
@@ -395,29 +441,52 @@ pub fn class(number: u8) -> u8 {
         1 | 8 | 9 => 1,
         2 | 3 | 5 | 6 | 12 | 13 => 2,
         4 => 3,
-        7 | 10 | 11 => 4,
+        7 | 10 | 11 | 14 => 4,
         _ => 0,
     }
 }
 
-/// Tries every layout, and shows each that is a valid plan and meets the deadlines, as the slot of each job.
-pub fn every_layout(list: &List, show: &mut dyn FnMut(&[u16])) {
-    fn rest(list: &List, slots: &mut Vec<u16>, show: &mut dyn FnMut(&[u16])) {
+/// Tries every layout in which each job ends by a time made of its deadline, and shows those that are valid plans, as
+/// the slot of each job, until one is what is looked for.
+pub fn any_layout(list: &List, due: &dyn Fn(i32) -> i32, sought: &mut dyn FnMut(&[u16]) -> bool) -> bool {
+    fn rest(
+        list: &List,
+        due: &dyn Fn(i32) -> i32,
+        slots: &mut Vec<u16>,
+        sought: &mut dyn FnMut(&[u16]) -> bool,
+    ) -> bool {
         let i = slots.len();
         if i == list.size() {
-            return show(slots);
+            return sought(slots);
         }
-        for slot in list.starts[i]..list.deadlines[i] {
+        (list.starts[i] as i32..due(list.deadlines[i] as i32)).any(|slot| {
+            let slot = slot as u16;
             let room = slots.iter().filter(|&&s| s == slot).count() < 2;
             slots.push(slot);
             let ordered = |&(a, b): &(usize, usize)| a.max(b) != i || slots[a] < slots[b];
-            if room && list.orders.iter().all(ordered) {
-                rest(list, slots, show);
-            }
+            let found = room && list.orders.iter().all(ordered) && rest(list, due, slots, sought);
             slots.pop();
-        }
+            found
+        })
     }
-    rest(list, &mut vec![], show)
+    rest(list, due, &mut vec![], sought)
+}
+
+/// The least of the greatest ends minus deadlines, over every layout; no job ends before its start + 1.
+pub fn least_lateness(list: &List) -> i32 {
+    let late = |slot: u16, deadline: u16| slot as i32 + 1 - deadline as i32;
+    let greatest = |slots: &[u16]| slots.iter().zip(&list.deadlines).map(|(&slot, &due)| late(slot, due)).max();
+    let mut numbers = greatest(&list.starts).unwrap()..;
+    let reached = |by: i32| any_layout(list, &|due| due + by, &mut |slots| greatest(slots) == Some(by));
+    numbers.find(|&by| reached(by)).unwrap()
+}
+
+/// The least finishing time over every layout that meets the deadlines; none where there is no layout.
+pub fn least_finish(list: &List) -> Option<usize> {
+    let finish = |slots: &[u16]| slots.iter().max().map_or(0, |&last| last as i32 + 1);
+    let reached = |by: i32| any_layout(list, &|due| due.min(by), &mut |slots| finish(slots) == by);
+    let any = any_layout(list, &|due| due, &mut |_| true);
+    any.then(|| (0..).find(|&by| reached(by)).unwrap() as usize)
 }
 
 /// Whether a plan is valid and every job ends by its time.

@@ -42,7 +42,7 @@ pub fn small_lists(guard: usize) {
         (list(&[(0, 33); 65], &[]), Err((1, 0))),
     ];
     for (list, result) in rows {
-        let pairs: Vec<u16> = list.orders.iter().flat_map(|&(a, b)| [a as u16, b as u16]).collect();
+        let pairs = list.pairs();
         let answer = judge(&list, &pairs, &vec![9; list.size()], guard);
         let mut row = Lent::new(&vec![9; list.size()], 9, guard);
         let got = lent::judge(&list.starts, &list.deadlines, &pairs, &mut row);

@@ -60,6 +60,11 @@ fn cases() -> Vec<Case> {
             );
         }
     }
+    for (kind, make) in kinds {
+        let lists = move |seeds: usize| (1..=seeds).map(|seed| make(64, seed)).collect();
+        add(format!("lateness {kind} 64"), Box::new(move |seeds| how_late(lists(seeds))));
+        add(format!("shortest {kind} 64"), Box::new(move |seeds| how_short(lists(seeds))));
+    }
     add("one more job".into(), Box::new(|seeds| request(books(lists::tight, 63, seeds), last_job(seeds))));
     add(
         "one more order".into(),
@@ -190,6 +195,37 @@ fn whole(lists: Vec<List>) -> Pair {
         let (k, lists) = theirs();
         let (list, mut row) = (black_box(&lists[k]), [0; 64]);
         told(engine::judge(&list.starts, &list.deadlines, &list.pairs, &mut row)) + row[3] as usize
+    };
+    Pair { proved: Box::new(proved), plain: Box::new(plain) }
+}
+
+fn how_late(lists: Vec<List>) -> Pair {
+    let (mut ours, mut theirs) = (round(lists.clone()), round(lists));
+    let proved = move || {
+        let (k, lists) = ours();
+        let list = black_box(&lists[k]);
+        let late = planner::lateness(&list.starts, &list.deadlines, &list.pairs);
+        told(late.map(|late| (4096 + late as i32) as usize).map_err(|r| (r.number, r.value)))
+    };
+    let plain = move || {
+        let (k, lists) = theirs();
+        let list = black_box(&lists[k]);
+        told(engine::lateness(&list.starts, &list.deadlines, &list.pairs).map(|late| (4096 + late) as usize))
+    };
+    Pair { proved: Box::new(proved), plain: Box::new(plain) }
+}
+
+fn how_short(lists: Vec<List>) -> Pair {
+    let (mut ours, mut theirs) = (round(lists.clone()), round(lists));
+    let proved = move || {
+        let (k, lists) = ours();
+        let list = black_box(&lists[k]);
+        told(planner::shortest(&list.starts, &list.deadlines, &list.pairs).map_err(|r| (r.number, r.value)))
+    };
+    let plain = move || {
+        let (k, lists) = theirs();
+        let list = black_box(&lists[k]);
+        told(engine::shortest(&list.starts, &list.deadlines, &list.pairs))
     };
     Pair { proved: Box::new(proved), plain: Box::new(plain) }
 }

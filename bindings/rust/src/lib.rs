@@ -47,7 +47,7 @@ pub struct CoreIndex(pub usize);
 /// A number of refusal, and what is returned with it. Nothing was changed.
 #[derive(Clone, Copy, Debug, PartialEq, Eq)]
 pub struct Refusal {
-    /// 1 to 13.
+    /// 1 to 14.
     pub number: u8,
     /// What is returned with it: a place in a list, bytes needed, an offset, or 0.
     pub value: usize,
@@ -60,11 +60,11 @@ pub enum Class {
     None = 0,
     /// 1, 8, 9.
     Room = 1,
-    /// 2, 3, 5, 6.
+    /// 2, 3, 5, 6, 12, 13.
     Request = 2,
     /// 4.
     Plan = 3,
-    /// 7, 10, 11.
+    /// 7, 10, 11, 14.
     Form = 4,
 }
 
@@ -282,6 +282,51 @@ pub fn judge(starts: &[u16], deadlines: &[u16], pairs: &[u16], latest: &mut [u16
     answer(number, value).map(|_| ())
 }
 
+/// The least maximum lateness of a whole list: a job's lateness is its end minus its deadline, a plan's is the greatest
+/// of its jobs', and this is the least of all valid plans', deadlines met or not. It is also the least number of slots
+/// by which all deadlines can be moved, past 4,096 too, so that a valid plan meets them: above 0 where the list does
+/// not fit. From -4,095 to 4,158. 7, 1, 14; then 2, 3 job by job; then 5, 12 pair by pair; then 13 or 6; never 4.
+///
+/// ```
+/// // eight jobs in two slots: all would fit if each deadline were two slots later
+/// assert_eq!(planner::lateness(&[0; 8], &[2; 8], &[]), Ok(2));
+/// ```
+pub fn lateness(starts: &[u16], deadlines: &[u16], pairs: &[u16]) -> Result<i16, Refusal> {
+    let (mut lateness, mut value) = (0, 0);
+    let number = unsafe {
+        raw::firmware_lateness(
+            starts.as_ptr(),
+            starts.len(),
+            deadlines.as_ptr(),
+            deadlines.len(),
+            pairs.as_ptr(),
+            pairs.len(),
+            &mut lateness,
+            &mut value,
+        )
+    };
+    answer(number, value).map(|_| lateness)
+}
+
+/// The shortest finishing time among the valid plans of a whole list that meet the deadlines; 0 for an empty list. The
+/// plan that [`Book::plan`] makes may finish later. 7, 1; then 2, 3 job by job; then 5, 12 pair by pair; then 13 or 6;
+/// then 4.
+pub fn shortest(starts: &[u16], deadlines: &[u16], pairs: &[u16]) -> Result<usize, Refusal> {
+    let mut value = 0;
+    let number = unsafe {
+        raw::firmware_shortest(
+            starts.as_ptr(),
+            starts.len(),
+            deadlines.as_ptr(),
+            deadlines.len(),
+            pairs.as_ptr(),
+            pairs.len(),
+            &mut value,
+        )
+    };
+    answer(number, value)
+}
+
 fn answer(number: u8, value: usize) -> Result<usize, Refusal> {
     match number {
         0 => Ok(value),
@@ -318,6 +363,7 @@ impl fmt::Display for Refusal {
             11 => "no whole record at the offset",
             12 => "an order whose second job is not held",
             13 => "an order of a job before itself",
+            14 => "the lateness of an empty list",
             _ => "unknown",
         };
         write!(f, "refused {}: {text} ({})", self.number, self.value)

@@ -21,6 +21,10 @@ unsafe extern "C" {
     pub fn firmware_draw_in(times: *mut Times, before: *mut Before, job: u16, deadline: u16, value: *mut usize) -> u8;
     /// A whole list.
     pub fn firmware_judge(starts: *const u16, starts_length: usize, deadlines: *const u16, deadlines_length: usize, pairs: *const u16, pairs_length: usize, latest: *mut u16, latest_length: usize, value: *mut usize) -> u8;
+    /// The least maximum lateness of a whole list, in `lateness`; a refusal leaves it.
+    pub fn firmware_lateness(starts: *const u16, starts_length: usize, deadlines: *const u16, deadlines_length: usize, pairs: *const u16, pairs_length: usize, lateness: *mut i16, value: *mut usize) -> u8;
+    /// The shortest finishing time of a whole list.
+    pub fn firmware_shortest(starts: *const u16, starts_length: usize, deadlines: *const u16, deadlines_length: usize, pairs: *const u16, pairs_length: usize, value: *mut usize) -> u8;
     /// The plan.
     pub fn firmware_plan(times: *const Times, before: *const Before, out: *mut u8, length: usize, value: *mut usize) -> u8;
     /// The place of a job; there is no value.

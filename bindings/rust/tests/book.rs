@@ -101,3 +101,70 @@ fn a_whole_list() {
     assert_eq!(judge(&[0; 2], &[1, 2], &[0, 0, 2, 1], &mut latest), Err(Refusal { number: 5, value: 1 }));
     assert_eq!(judge(&[], &[], &[], &mut []), Ok(()));
 }
+
+#[test]
+fn how_late_and_how_short() {
+    assert_eq!(lateness(&[0; 8], &[2; 8], &[]), Ok(2));
+    assert_eq!(shortest(&[0; 8], &[2; 8], &[]), Err(REFUSED_4));
+    assert_eq!(lateness(&[0; 3], &[1, 9, 9], &[0, 1, 1, 2]), Ok(0));
+    assert_eq!(lateness(&[0; 3], &[3, 9, 9], &[0, 1, 1, 2]), Ok(-2));
+    assert_eq!(shortest(&[0; 3], &[3, 9, 9], &[0, 1, 1, 2]), Ok(3));
+    assert_eq!(shortest(&[], &[], &[]), Ok(0));
+}
+
+#[test]
+fn the_plan_made_is_not_the_shortest() {
+    let mut book = Book::open();
+    for deadline in [1, 2, 2, 3] {
+        book.add_job(0, deadline).unwrap();
+    }
+    book.add_order(JobIndex(2), JobIndex(3)).unwrap();
+    assert_eq!(book.plan(&mut [0; 6]), Ok(3));
+    assert_eq!(shortest(&[0; 4], &[1, 2, 2, 3], &[2, 3]), Ok(2));
+    assert_eq!(lateness(&[0; 4], &[1, 2, 2, 3], &[2, 3]), Ok(0));
+}
+
+#[test]
+fn lateness_from_end_to_end() {
+    assert_eq!(lateness(&[0], &[4096], &[]), Ok(-4095));
+    assert_eq!(shortest(&[0], &[4096], &[]), Ok(1));
+    assert_eq!(shortest(&[4095], &[4096], &[]), Ok(4096));
+    // one chain from 4,095, whose last job is due by 1
+    let (mut starts, mut deadlines) = ([4095; 64], [4096; 64]);
+    (starts[63], deadlines[63]) = (0, 1);
+    let chain: Vec<u16> = (0..63).flat_map(|job| [job, job + 1]).collect();
+    assert_eq!(lateness(&starts, &deadlines, &chain), Ok(4158));
+    assert_eq!(shortest(&starts, &deadlines, &chain), Err(REFUSED_4));
+}
+
+/// Both calls on a whole list give this refusal.
+fn both_refuse(starts: &[u16], deadlines: &[u16], pairs: &[u16], number: u8, value: usize) {
+    assert_eq!(lateness(starts, deadlines, pairs), Err(Refusal { number, value }));
+    assert_eq!(shortest(starts, deadlines, pairs), Err(Refusal { number, value }));
+}
+
+#[test]
+fn lateness_and_shortest_refuse() {
+    both_refuse(&[0; 2], &[2; 3], &[0, 0], 7, 0);
+    both_refuse(&[0; 65], &[0; 65], &[0, 0, 9], 7, 0);
+    both_refuse(&[], &[], &[9], 7, 0);
+    both_refuse(&[0; 65], &[0; 65], &[99, 99], 1, 0);
+    both_refuse(&[0, 0, 4096], &[2; 3], &[0, 0], 2, 2);
+    both_refuse(&[0, 0, 9], &[2, 4097, 2], &[0, 0], 2, 1);
+    both_refuse(&[0, 2, 9], &[2, 2, 4097], &[0, 0], 3, 1);
+    both_refuse(&[0; 2], &[2; 2], &[0, 0, 2, 2], 5, 1);
+    both_refuse(&[0; 2], &[2; 2], &[0, 0, 1, 2], 12, 1);
+    both_refuse(&[0; 2], &[2; 2], &[0, 1, 1, 1, 1, 0], 13, 1);
+    both_refuse(&[0; 2], &[2; 2], &[0, 1, 1, 0, 1, 1], 6, 1);
+    both_refuse(&[0; 3], &[1; 3], &[0, 1, 1, 2, 0, 1, 2, 0], 6, 3);
+}
+
+#[test]
+fn an_empty_list_has_no_lateness() {
+    for pairs in [&[][..], &[0, 0], &[9, 9, 9, 9]] {
+        let refusal = lateness(&[], &[], pairs).unwrap_err();
+        assert_eq!((refusal.number, refusal.value, refusal.class()), (14, 0, Class::Form));
+        assert_eq!(refusal.to_string(), "refused 14: the lateness of an empty list (0)");
+    }
+    assert_eq!(shortest(&[], &[], &[0, 0]), Err(Refusal { number: 5, value: 0 }));
+}

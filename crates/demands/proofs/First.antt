@@ -7,6 +7,7 @@ use Prim.Native.Nat.{ℕ, _+_, _≤_, _<_}
 use native.Mathlib.Omega.{arith}
 use borrow.Author.Tests.{ne-eqb}
 use lib.Dec.{T}
+use lib.IntN.{ℤ}
 use lib.ListN.{length, drop}
 use Rattle.schedule.specs.Listed.{Listed}
 use Rattle.refusal.specs.Table.{check, Table, refused, passed}
@@ -16,7 +17,9 @@ use Rattle.planner.specs.declared.requests.Request.{Request}
 use Rattle.planner.specs.Requests.{sound-checks, request-checks, accepts-with, grow, Applied, answered, Turned, Grown, Applies}
 use Rattle.planner.specs.List.{list-of, rows-checks, list-checks, Judged, TurnedDown, Fitted, Judges}
 use Rattle.planner.proofs.Outcome.{sound-number, sound-some, sound-few, sound-numbers}
+use Rattle.planner.specs.Late.{late-checks, Latens, lone-checks, short-checks, Shortens}
 use Rattle.planner.proofs.ListOutcome.{rows-numbers}
+use Rattle.planner.proofs.HowLate.{late-numbers, lone-numbers}
 use Rattle.plan.specs.Plan.{Plans}
 use Rattle.plan.specs.Place.{Places}
 use Rattle.records.specs.declared.Record.{Record}
@@ -24,6 +27,7 @@ use Rattle.records.specs.Record.{length-of, Stands}
 use Rattle.records.specs.Find.{find-checks}
 use Rattle.jobfile.specs.Reader.{AfterRead, asks, Stays, Answers, ReadsRecord}
 use Rattle.jobfile.specs.Writer.{file-of, Output, output, WritesBook}
+use Rattle.firmware.specs.List.{FindsLateness}
 use Rattle.firmware.specs.Plans.{FindsPlace}
 use Rattle.demands.specs.Demands.{Numbered, Demand1}
 
@@ -48,6 +52,23 @@ list : (starts deadlines pairs old : List ℕ) (r : Judged) → Judges starts de
 list starts deadlines pairs old r j h = table-all (list-checks starts deadlines pairs old) (TurnedDown old) (Fitted (list-of starts deadlines pairs) old) r (Numbered (r .number) × (r .row ≡ old))
     (λ n v y a. (subst Numbered (sym (ap (λ (z : Judged). z .number) a)) (among-each Numbered (list-checks starts deadlines pairs old) n (list-numbered starts deadlines pairs old) y), ap (λ (z : Judged). z .row) a))
     (λ g. absurd (omega (arith, ap (λ (z : Judged). z .number) (g .accepts)))) j
+
+late-numbered : (starts deadlines pairs : List ℕ) → Each Numbered (late-checks starts deadlines pairs)
+late-numbered starts deadlines pairs = each-map (λ n. T (sound-number n)) Numbered (late-checks starts deadlines pairs) numbered (late-numbers starts deadlines pairs)
+
+lateness : (starts deadlines pairs : List ℕ) (n : ℕ) (v : ℤ) → Latens starts deadlines pairs n v → 1 ≤ n → Numbered n
+lateness starts deadlines pairs n v (refused m w x e) h = subst Numbered (sym (ap (λ (p : ℕ × ℤ). p .0) e)) (refuses-each Numbered (late-checks starts deadlines pairs) m w (late-numbered starts deadlines pairs) x)
+lateness starts deadlines pairs n v (passed x l) h = absurd (omega (arith, ap (λ (p : ℕ × ℤ). p .0) (l .tells)))
+
+lateness-lent : (starts deadlines pairs : List ℕ) (old new : ℤ) (n v : ℕ) → FindsLateness starts deadlines pairs old new n v → 1 ≤ n → Numbered n × (new ≡ old)
+lateness-lent starts deadlines pairs old new n v x h = (lateness starts deadlines pairs n (x .value) (x .latens) h, x .late ∙ simp (ne-eqb n 0 (λ e. omega arith)))
+
+short-numbered : (starts deadlines pairs : List ℕ) → Each Numbered (short-checks starts deadlines pairs)
+short-numbered starts deadlines pairs = (each-map (λ n. T (sound-number n)) Numbered (lone-checks starts deadlines pairs) numbered (lone-numbers starts deadlines pairs), (omega arith, omega arith))
+
+shortest : (starts deadlines pairs : List ℕ) (n v : ℕ) → Shortens starts deadlines pairs n v → 1 ≤ n → Numbered n
+shortest starts deadlines pairs n v (refused m w x e) h = subst Numbered (sym (ap (λ (p : ℕ × ℕ). p .0) e)) (refuses-each Numbered (short-checks starts deadlines pairs) m w (short-numbered starts deadlines pairs) x)
+shortest starts deadlines pairs n v (passed x l) h = absurd (omega (arith, ap (λ (p : ℕ × ℕ). p .0) (l .tells)))
 
 plan : (k : Book) (old new : List ℕ) (n v : ℕ) → Plans k old new n v → 1 ≤ n → Numbered n × (new ≡ old)
 plan k old new n v (refused c w x e) h = let number : n ≡ 8 = ap (λ r. r .0) e ∙ x .1 in ((omega arith, omega arith), ap (λ r. r .2) e)
@@ -85,4 +106,4 @@ written k old new n v x h = go (x .outcome)
     go (passed y e) = absurd (omega (arith, ap (λ (p : Output). p .number) e))
 
 pub demand-1 : Demand1
-demand-1 = record { request = request; list = list; plan = plan; place = place; place-lent = place-lent; record-read = record-read; written = written }
+demand-1 = record { request = request; list = list; lateness = lateness; shortest = shortest; plan = plan; place = place; lateness-lent = lateness-lent; place-lent = place-lent; record-read = record-read; written = written }

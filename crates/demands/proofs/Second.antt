@@ -50,7 +50,7 @@ module _ (L : Listed) (k : Book) (t : Told k L) where
       }
 
 -- ---- no plan
-no-schedule : (L : Listed) → (Plannable L → ⊥) → NoSchedule L
+pub no-schedule : (L : Listed) → (Plannable L → ⊥) → NoSchedule L
 no-schedule L none = record {
   whole = λ J r p. none (J, r, p);
   parts = λ J u r pos s. no-plan-no-timed 2 u pos J (written L) (λ p. none (J, r, p)) s;

@@ -29,7 +29,7 @@ use Rattle.refusal.proofs.Table.{refuses-not-clear, table-free, table-caught}
 use Rattle.book.specs.Told.{Book, jobs-of, latest-of, row-in, Told}
 use Rattle.planner.specs.Requests.{plan-check}
 use Rattle.planner.specs.List.{first-of, second-of, pairs-of, list-of, Misshapen, order-at, Judged, judged, TurnedDown, Fitted, Judges}
-use Rattle.planner.specs.Inner.List.{Held}
+use Rattle.planner.specs.Inner.Entries.{Held}
 use Rattle.planner.proofs.Orders.{held-clear}
 use Rattle.planner.proofs.Pairs.{pairs-loopless}
 use Rattle.planner.proofs.ListSound.{Sound}
@@ -56,7 +56,7 @@ module _ (starts deadlines pairs : List ℕ) (t : T (tame starts deadlines pairs
       .read t
 
   shaped : length deadlines ≡ length starts → (old : List ℕ) → length starts ≤ length old → Misshapen starts deadlines pairs old → ⊥
-  shaped e old room u = ⊎-elim (λ f. f (sym e)) (λ v. ⊎-elim (λ f. omega (arith, checked .0 .1)) (λ f. omega arith) v) u
+  shaped e old room u = ⊎-elim (λ v. ⊎-elim (λ f. f (sym e)) (λ f. omega (arith, checked .0 .1)) v) (λ f. omega arith) u
 
   sound : Formed L → (Looped L → ⊥) → Sound starts deadlines pairs
   sound formed loopless = sound-by starts deadlines pairs formed loopless (checked .0 .0) (λ i l. ((λ u. checked .1 i l (inl u)), λ u. checked .1 i l (inr u)))

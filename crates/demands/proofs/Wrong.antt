@@ -89,7 +89,7 @@ module _ (call : Book → Request → Applied) (app : Applying call) where
 no-job : (r : Judged) → Judges [] [] [] [] r → r .number ≡ 0
 unfolding pairs-of
 no-job r j = list-accepted [] [] [] [] r j
-    ((λ f. ⊎-elim (λ g. g refl) (λ g. ⊎-elim (λ e. omega arith) (λ e. omega arith) g) f), ((λ f. omega arith), ((λ i l. absurd (omega arith)), ((λ i l. absurd (omega arith)), λ i l. absurd (omega arith)))))
+    ((λ f. ⊎-elim (λ u. ⊎-elim (λ g. g refl) (λ e. omega arith) u) (λ e. omega arith) f), ((λ f. omega arith), ((λ i l. absurd (omega arith)), ((λ i l. absurd (omega arith)), λ i l. absurd (omega arith)))))
     (ones-plannable 0 (omega arith)) .0
 
 pub shut-out : ShutOut

@@ -1,10 +1,11 @@
--- The customer's three demands, of what the public calls promise: apply (`Applies`), judge (`Judges`), plan (`Plans`), place (`Places`), read (`ReadsRecord`) and write (`WritesBook`).
+-- The customer's three demands, of what the public calls promise: apply (`Applies`), judge (`Judges`), lateness (`Latens`), shortest (`Shortens`), plan (`Plans`), place (`Places`), read (`ReadsRecord`) and write (`WritesBook`).
 -- A promise gives the number of an answer, 0 where it is accepted, and its value. That a call ends is what a proved function means.
 -- Assumes nothing.
 use mathlib.Core.List.{List, _++_}
 use mathlib.Core.Logic.{_↔_, _⊎_}
 use mathlib.Core.Path.{_≡_}
 use Prim.Native.Nat.{ℕ, _+_, _*_, _≤_, _<_}
+use lib.IntN.{ℤ}
 use lib.ListN.{length, getD, drop}
 use Rattle.schedule.specs.Jobs.{Jobs}
 use Rattle.schedule.specs.Plan.{Valid, Meets, HasPlan, finish}
@@ -19,6 +20,7 @@ use Rattle.planner.specs.declared.requests.Request.{Request}
 use Rattle.planner.specs.declared.requests.Request.the-variants.{Before, Earlier}
 use Rattle.planner.specs.Requests.{Plannable, Sound, grow, accepts-with, Applied, answered, Applies, Run}
 use Rattle.planner.specs.List.{list-of, Misshapen, SoundRows, Judged, Judges}
+use Rattle.planner.specs.Late.{Latens, Shortens}
 use Rattle.plan.specs.Plan.{horizon, unplaced, Plans}
 use Rattle.plan.specs.Place.{Places}
 use Rattle.records.specs.declared.Record.{Record}
@@ -26,19 +28,23 @@ use Rattle.records.specs.Record.{length-of, Stands}
 use Rattle.jobfile.specs.Reader.{AfterRead, ReadsRecord}
 use Rattle.jobfile.specs.Writer.{WritesBook}
 use Rattle.jobfile.specs.RoundTrip.{ReadsBack}
+use Rattle.firmware.specs.List.{FindsLateness}
 use Rattle.firmware.specs.Plans.{FindsPlace}
 
 -- ---- 1. "Each refusal has a number; the book of jobs is then as it was before the call, and so is every byte of lent memory."
--- a number of the table (01, Numbers of refusal; 02, A1: 12 and 13)
+-- a number of the table (01, Numbers of refusal; 02: 12 and 13 by A1, 14 by A2)
 abbrev pub Numbered : ℕ → Type 0
-Numbered n = (1 ≤ n) × (n ≤ 13)
+Numbered n = (1 ≤ n) × (n ≤ 14)
 
 pub record Demand1 : Type 0 where
   pub request : (k : Book) (q : Request) (r : Applied) → Made k → Applies k q r → 1 ≤ r .number → Numbered (r .number) × (r .book ≡ k)
   pub list : (starts deadlines pairs old : List ℕ) (r : Judged) → Judges starts deadlines pairs old r → 1 ≤ r .number → Numbered (r .number) × (r .row ≡ old)
+  pub lateness : (starts deadlines pairs : List ℕ) (n : ℕ) (v : ℤ) → Latens starts deadlines pairs n v → 1 ≤ n → Numbered n
+  pub shortest : (starts deadlines pairs : List ℕ) (n v : ℕ) → Shortens starts deadlines pairs n v → 1 ≤ n → Numbered n
   pub plan : (k : Book) (old new : List ℕ) (n v : ℕ) → Plans k old new n v → 1 ≤ n → Numbered n × (new ≡ old)
   pub place : (k : Book) (job n : ℕ) (values : List ℕ) → Places k job n values → 1 ≤ n → Numbered n
-  -- the calls for firmware promise these same relations of lent memory, in numbers; a place goes into four lent numbers, and a refusal leaves them
+  -- the calls for firmware promise these same relations of lent memory, in numbers; a place goes into four lent numbers, a lateness into one, and a refusal leaves them
+  pub lateness-lent : (starts deadlines pairs : List ℕ) (old new : ℤ) (n v : ℕ) → FindsLateness starts deadlines pairs old new n v → 1 ≤ n → Numbered n × (new ≡ old)
   pub place-lent : (k : Book) (job n : ℕ) (old new : List ℕ) → FindsPlace k job old new n → 1 ≤ n → Numbered n × (new ≡ old)
   -- one record read: a refused request moves the offset past its record, a stop leaves it; 255 is the end of the file and no refusal
   pub record-read : (k : Book) (file : List ℕ) (at : ℕ) (r : AfterRead) → Made k → ReadsRecord k file at r → 1 ≤ r .number → (r .number ≡ 255 → ⊥) →

@@ -8,6 +8,8 @@ pub use file::firmware_read;
 pub use file::firmware_write;
 pub use list::firmware_class;
 pub use list::firmware_judge;
+pub use list::firmware_lateness;
+pub use list::firmware_shortest;
 pub use plans::firmware_place;
 pub use plans::firmware_plan;
 pub use requests::firmware_add_job;

@@ -1,9 +1,11 @@
-// The whole list at once, and the class of a number of refusal.
+// The whole list at once, how late and how short, and the class of a number of refusal.
+use planner::Late;
 use refusal::Class;
 ghost use mathlib.Core.Path.{_≡_};
 ghost use Rattle.refusal.specs.Says.{class-of};
+ghost use Rattle.planner.specs.Late.{Shortens};
 ghost use Rattle.planner.specs.List.{Judges, judged};
-ghost use Rattle.firmware.specs.List.{class-number};
+ghost use Rattle.firmware.specs.List.{FindsLateness, class-number};
 
 #[no_mangle]
 pub extern "C" fn firmware_judge(
@@ -16,6 +18,45 @@ pub extern "C" fn firmware_judge(
     ensures { λ r. ⌜ Judges (now (starts .entry)) (now (deadlines .entry)) (now (pairs .entry)) (now (latest .entry)) (judged (now (latest .exit)) r (now (answer .exit))) ⌝ }
 {
     let told = planner::judge(starts, deadlines, pairs, latest);
+    *answer = refusal::value(told);
+    refusal::number(told)
+}
+
+// A refusal leaves the lateness lent.
+#[no_mangle]
+pub extern "C" fn firmware_lateness(
+    starts: &[u16],
+    deadlines: &[u16],
+    pairs: &[u16],
+    lateness: &mut i16,
+    answer: &mut usize,
+) -> u8
+    ensures { λ r. ⌜ FindsLateness (now (starts .entry)) (now (deadlines .entry)) (now (pairs .entry)) (now (lateness .entry)) (now (lateness .exit)) r (now (answer .exit)) ⌝ }
+{
+    let told = planner::lateness(starts, deadlines, pairs);
+    match told {
+        Late::By(slots) => {
+            *lateness = slots;
+            *answer = 0;
+            0
+        }
+        Late::Refused(number, value) => {
+            *answer = value;
+            number
+        }
+    }
+}
+
+#[no_mangle]
+pub extern "C" fn firmware_shortest(
+    starts: &[u16],
+    deadlines: &[u16],
+    pairs: &[u16],
+    answer: &mut usize,
+) -> u8
+    ensures { λ r. ⌜ Shortens (now (starts .entry)) (now (deadlines .entry)) (now (pairs .entry)) r (now (answer .exit)) ⌝ }
+{
+    let told = planner::shortest(starts, deadlines, pairs);
     *answer = refusal::value(told);
     refusal::number(told)
 }

@@ -13,16 +13,15 @@ use lib.Seq.{getD-set-same, getD-set-other, ext-getD}
 use Rattle.schedule.specs.Plan.{HasPlan}
 use Rattle.schedule.specs.Times.{Earliest, Latest}
 use Rattle.schedule.proofs.Tests.{le-or-lt}
-use Rattle.schedule.proofs.Early.{exists-earliest}
-use Rattle.schedule.proofs.Theorem.{row-iff-plan}
 use Rattle.book.specs.Told.{Book, cores, part, book-in, jobs-in, row-in}
 use Rattle.book.proofs.Parts.{part-length, part-in, book-in-late, with-latest}
 use Rattle.planner.specs.Inner.Tighten.{Tightenable, Tightens}
 use Rattle.refusal.specs.Table.{refused, passed}
 use Rattle.planner.specs.List.{judged}
 use Rattle.planner.specs.Inner.Rows.{Hands, Keeps}
-use Rattle.planner.specs.Inner.List.{Settleable, Settles}
+use Rattle.planner.specs.Inner.List.{Judgeable, Settles}
 use Rattle.book.proofs.Empty.{zeros}
+use Rattle.planner.proofs.Tightened.{tightens-whether}
 
 pub hands-none : (times row : List ℕ) → Hands 0 times row row
 hands-none times row = record { same-length = refl; front = below-none _; rest = λ i l. refl }
@@ -69,7 +68,7 @@ hands-whole : (size : ℕ) (times next : List ℕ) → size ≡ length times →
 hands-whole size times next e h i = ⊎-elim (λ le. h .rest i le ∙ zeros 64 i ∙ sym (List·getD-eq-default times 0 (omega arith))) (λ lt. h .front i lt) (le-or-lt size i)
 
 -- to tighten the row handed over is to tighten the row lent
-module _ (starts deadlines before row due : List ℕ) (s : Settleable starts deadlines before row) (hd : Hands (length starts) deadlines (replicate 64 0) due) where
+module _ (starts deadlines before due : List ℕ) (s : Judgeable starts deadlines before) (hd : Hands (length starts) deadlines (replicate 64 0) due) where
   same-due : (i : ℕ) → getD due i 0 ≡ getD deadlines i 0
   same-due = hands-whole (length starts) deadlines due (s .even) hd
 
@@ -91,12 +90,10 @@ module _ (starts deadlines before row due : List ℕ) (s : Settleable starts dea
     latest-lent : found ≡ true → (early : ℕ → ℕ) → Earliest (jobs-in (length starts) starts before) early → Latest 2 (jobs-in (length starts) starts before) early (row-in deadlines) (row-in times)
     latest-lent e = subst (λ (f : ℕ → ℕ). (early : ℕ → ℕ) → Earliest (jobs-in (length starts) starts before) early → Latest 2 (jobs-in (length starts) starts before) early f (row-in times)) alike (t .latest e)
 
-    pub settles-fits : (after : List ℕ) → found ≡ true → Hands (length starts) times row after → Settles starts deadlines before row (judged after 0 0)
-    settles-fits after e h =
-        let earliest = exists-earliest (jobs-in (length starts) starts before) (s .closed) (s .loopless) in
-        let x = latest-lent e (earliest .0) (earliest .1) in
-        passed (λ no. no (row-iff-plan 2 (jobs-in (length starts) starts before) (earliest .0) (row-in deadlines) (omega arith) (omega arith) (s .closed) (earliest .1) .0 (row-in times, x .consistent, x .beneath)))
+    pub settles-fits : (row after : List ℕ) → found ≡ true → Hands (length starts) times row after → Settles starts deadlines before row (judged after 0 0)
+    settles-fits row after e h =
+        passed (λ no. no (subst (HasPlan cores (jobs-in (length starts) starts before)) alike (tightens-whether (length starts) starts before due times found (s .closed) (s .loopless) t .yes e)))
         (record { accepts = refl; times = times; latest = latest-lent e; handed = h })
 
-    pub settles-none : found ≡ false → Settles starts deadlines before row (judged row 4 0)
-    settles-none e = refused 4 0 (subst (λ (f : ℕ → ℕ). HasPlan 2 (jobs-in (length starts) starts before) f → ⊥) alike (t .none e), refl, refl) refl
+    pub settles-none : (row : List ℕ) → found ≡ false → Settles starts deadlines before row (judged row 4 0)
+    settles-none row e = refused 4 0 (subst (λ (f : ℕ → ℕ). HasPlan 2 (jobs-in (length starts) starts before) f → ⊥) alike (t .none e), refl, refl) refl

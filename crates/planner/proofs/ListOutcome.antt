@@ -4,7 +4,6 @@ use mathlib.Core.List.{List}
 use mathlib.Core.Logic.{inl, ⊎-elim}
 use mathlib.Core.Path.{_≡_, sym, ap, _∙_}
 use Prim.Native.Nat.{ℕ, _/_, _≤_, _<_}
-use native.Mathlib.Nat.{le-antisymm}
 use native.Mathlib.Omega.{arith}
 use lib.Dec.{T}
 use lib.ListN.{length, getD}
@@ -18,14 +17,14 @@ use Rattle.refusal.proofs.Table.{Each, each-map, among-each, table-one, table-p
 use Rattle.refusal.proofs.Says.{says-only}
 use Rattle.book.specs.Told.{Book, Told, jobs-of, latest-of, row-in}
 use Rattle.planner.proofs.Outcome.{sound-number, sound-some, sound-other}
-use Rattle.planner.specs.List.{first-of, second-of, pairs-of, list-of, Misshapen, job-at, order-at, rows-checks, list-checks, Judged, judged, TurnedDown, Fitted, Judges, AsRequests}
+use Rattle.planner.specs.List.{first-of, second-of, pairs-of, list-of, Misshapen, job-at, order-at, entries-checks, rows-checks, list-checks, Judged, judged, TurnedDown, Fitted, Judges, AsRequests}
 use Rattle.planner.specs.Requests.{plan-check}
-use Rattle.planner.specs.Inner.List.{Held}
+use Rattle.planner.specs.Inner.Entries.{Held}
 use Rattle.schedule.proofs.Readings.{holds-one}
 use Rattle.schedule.proofs.Onward.{holds-planned}
 use Rattle.planner.proofs.Growing.{size-is}
 use Rattle.planner.proofs.Pairs.{pairs-more, pairs-in}
-use Rattle.planner.proofs.ListSound.{Sound}
+use Rattle.planner.proofs.ListSound.{Sound, sound-entries, even-by}
 use Rattle.planner.proofs.Orders.{held-clear, loop-none}
 use Rattle.planner.proofs.OneByOne.{run-exists}
 
@@ -50,8 +49,11 @@ list-answer-only starts deadlines pairs row after next r s x y =
     says-only _ _ r s (λ n v u w p o. let e = judges-only starts deadlines pairs row _ _ p o in (ap (λ (a : Judged). a .number) e, ap (λ (a : Judged). a .value) e)) x y
 
 -- ---- numbers
+pub entries-numbers : (starts deadlines pairs : List ℕ) → Each (λ n. T (sound-number n)) (entries-checks starts deadlines pairs)
+entries-numbers starts deadlines pairs = ((λ i. (tt, tt)), ((λ p. (tt, tt)), λ p. (tt, tt)))
+
 pub rows-numbers : (starts deadlines pairs row : List ℕ) → Each (λ n. T (sound-number n)) (rows-checks starts deadlines pairs row)
-rows-numbers starts deadlines pairs row = (tt, (tt, ((λ i. (tt, tt)), ((λ p. (tt, tt)), λ p. (tt, tt)))))
+rows-numbers starts deadlines pairs row = (tt, (tt, entries-numbers starts deadlines pairs))
 
 pub list-some : (starts deadlines pairs row : List ℕ) → Each (λ n. 1 ≤ n) (list-checks starts deadlines pairs row)
 list-some starts deadlines pairs row =
@@ -64,10 +66,7 @@ accepted-sound starts deadlines pairs row r j a =
     let x = table-past (list-checks starts deadlines pairs row) (TurnedDown row) (Fitted (list-of starts deadlines pairs) row) r
     (λ n v m t. omega (arith, a, ap (λ (j : Judged). j .number) t, among-each (λ n. 1 ≤ n) (list-checks starts deadlines pairs row) n (list-some starts deadlines pairs row) m)) j in
     let s = x .0 .0 in
-    (record { even = even (λ f. s .0 (inl f)); few = le-by _ 64 (s .1 .0); jobs = s .1 .1 .0; held = record { below = s .1 .1 .1 .0 }; free = s .1 .1 .1 .1 }, x .1)
-  where
-    even : ((length starts ≡ length deadlines → ⊥) → ⊥) → length starts ≡ length deadlines
-    even f = le-antisymm (le-by _ _ (λ l. f (λ e. omega arith))) (le-by _ _ (λ l. f (λ e. omega arith)))
+    (sound-entries starts deadlines pairs (even-by starts deadlines pairs (λ u. s .0 (inl u))) (le-by _ 64 (s .1 .0)) (s .1 .1), x .1)
 
 -- ---- and any list that is well formed, has no loop, and whose jobs are few and in their limits, passes them
 pub sound-by : (starts deadlines pairs : List ℕ) → Formed (list-of starts deadlines pairs) → (Looped (list-of starts deadlines pairs) → ⊥) → length starts ≤ 64 →

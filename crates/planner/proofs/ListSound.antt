@@ -4,6 +4,7 @@ use mathlib.Core.List.{List}
 use mathlib.Core.Logic.{inl, inr}
 use mathlib.Core.Path.{_≡_, refl, sym}
 use Prim.Native.Nat.{ℕ, _/_, _≤_, _<_}
+use native.Mathlib.Nat.{le-antisymm}
 use native.Mathlib.Omega.{arith}
 use lib.ListN.{length}
 use Rattle.schedule.specs.Jobs.{Jobs}
@@ -15,10 +16,11 @@ use Rattle.schedule.proofs.Early.{exists-earliest}
 use Rattle.schedule.proofs.Chains.{reads-closed, reads-loopless}
 use Rattle.schedule.proofs.Renumber.{latest-along}
 use Rattle.book.specs.Told.{jobs-in, row-in}
-use Rattle.refusal.specs.Table.{Checks, places, Clear, Refuses, Table, refused, passed}
+use Rattle.refusal.specs.Table.{Checks, check, _then_, places, Clear, Refuses, Table, refused, passed}
 use Rattle.planner.specs.Requests.{plan-check}
-use Rattle.planner.specs.List.{list-of, job-at, order-at, rows-checks, SoundRows, Judged, judged, TurnedDown, Fitted, Judges}
-use Rattle.planner.specs.Inner.List.{Held, Spells, Settleable, Settles}
+use Rattle.planner.specs.List.{list-of, Uneven, job-at, order-at, entries-checks, rows-checks, SoundRows, Judged, judged, TurnedDown, Fitted, Judges}
+use Rattle.planner.specs.Inner.Entries.{Held, Spells}
+use Rattle.planner.specs.Inner.List.{Judgeable, Settles}
 use Rattle.schedule.proofs.Readings.{reads-one, plan-one}
 use Rattle.schedule.proofs.Onward.{holds-planned}
 use Rattle.refusal.specs.declared.Answer.{Answer}
@@ -35,13 +37,29 @@ found-at n at p number l before f x = record { none = λ e. absurd (f e); some =
 pub none-at : (n : ℕ) (at : ℕ → Checks) (p value : ℕ) → n ≤ p → ((j : ℕ) → j < p → Clear (at j)) → Numbers (places n at) 0 value
 none-at n at p value l before = record { none = λ e i h. before i (omega arith); some = λ f. absurd (f refl) }
 
+-- ---- a search and then another
+pub numbers-first : (a b : Checks) (n v : ℕ) → (n ≡ 0 → ⊥) → Numbers a n v → Numbers (a then b) n v
+numbers-first a b n v f x = record { none = λ e. absurd (f e); some = λ g. inl (x .some g) }
+
+pub numbers-then : (a b : Checks) (n v : ℕ) → Clear a → Numbers b n v → Numbers (a then b) n v
+numbers-then a b n v clear x = record { none = λ e. (clear, x .none e); some = λ g. inr (clear, x .some g) }
+
 -- ---- what the checks before the last leave
+pub even-by : (starts deadlines pairs : List ℕ) → (Uneven starts deadlines pairs → ⊥) → length starts ≡ length deadlines
+even-by starts deadlines pairs f = le-antisymm (le-by _ _ (λ l. f (inl (λ e. omega arith)))) (le-by _ _ (λ l. f (inl (λ e. omega arith))))
+
 pub record Sound (starts deadlines pairs : List ℕ) : Type 0 where
   pub even : length starts ≡ length deadlines
   pub few : length starts ≤ 64
   pub jobs : (i : ℕ) → i < length starts → Clear (job-at starts deadlines i)
   pub held : Held (length starts) pairs
   pub free : (p : ℕ) → p < length pairs / 2 → Clear (order-at pairs p)
+
+pub sound-entries : (starts deadlines pairs : List ℕ) → length starts ≡ length deadlines → length starts ≤ 64 → Clear (entries-checks starts deadlines pairs) → Sound starts deadlines pairs
+sound-entries starts deadlines pairs even few c = record { even = even; few = few; jobs = c .0; held = record { below = c .1 .0 }; free = c .1 .1 }
+
+pub sound-counted : (starts deadlines pairs : List ℕ) → (Uneven starts deadlines pairs → ⊥) → Clear (check 1 0 (64 < length starts) then entries-checks starts deadlines pairs) → Sound starts deadlines pairs
+sound-counted starts deadlines pairs even c = sound-entries starts deadlines pairs (even-by starts deadlines pairs even) (le-by _ 64 (c .0)) (c .1)
 
 module _ (starts deadlines pairs : List ℕ) (s : Sound starts deadlines pairs) where
   pub formed : Formed (list-of starts deadlines pairs)
@@ -60,13 +78,12 @@ module _ (starts deadlines pairs before : List ℕ) (s : Sound starts deadlines 
   free : Looped L → ⊥
   free = loopless starts deadlines pairs s
 
-  reads : Reads L J
+  pub reads : Reads L J
   reads = record { size = refl; start = λ i l. refl; before = λ a b la lb. spells .chains a b }
 
-  pub sound-settleable : (row : List ℕ) → length starts ≤ length row → Settleable starts deadlines before row
-  sound-settleable row l = record {
+  pub sound-judgeable : Judgeable starts deadlines before
+  sound-judgeable = record {
     even = s .even;
-    room = l;
     few = s .few;
     rows = spells .long;
     early = λ i h. le-by _ 4095 (λ g. s .jobs i h .0 (inl g));

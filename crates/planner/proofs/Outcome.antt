@@ -36,7 +36,7 @@ answer-only k q b c r s m x y = says-only _ _ r s (λ n v u w p o. let e = appli
 -- ---- numbers
 -- a number of the table that comes before 4; 9, 10 and 11 are those of a file
 abbrev pub sound-number : ℕ → Bool
-sound-number n = ltb 0 n && ltb n 14 && not (eqb n 4 || eqb n 9 || eqb n 10 || eqb n 11)
+sound-number n = ltb 0 n && ltb n 15 && not (eqb n 4 || eqb n 9 || eqb n 10 || eqb n 11)
 
 pub sound-numbers : (L : Listed) (q : Request) → Each (λ n. T (sound-number n)) (sound-checks L q)
 sound-numbers L (Job s d) = (tt, (tt, tt))
@@ -44,10 +44,10 @@ sound-numbers L (Before a b) = ((tt, tt), (tt, tt))
 sound-numbers L (Earlier j d) = (tt, (tt, tt))
 
 pub sound-some : (n : ℕ) → T (sound-number n) → 1 ≤ n
-sound-some n t = ltb→lt 0 n (and-fst (ltb 0 n) (ltb n 14) (and-fst (ltb 0 n && ltb n 14) _ t))
+sound-some n t = ltb→lt 0 n (and-fst (ltb 0 n) (ltb n 15) (and-fst (ltb 0 n && ltb n 15) _ t))
 
-pub sound-few : (n : ℕ) → T (sound-number n) → n < 14
-sound-few n t = ltb→lt n 14 (and-snd (ltb 0 n) (ltb n 14) (and-fst (ltb 0 n && ltb n 14) _ t))
+pub sound-few : (n : ℕ) → T (sound-number n) → n < 15
+sound-few n t = ltb→lt n 15 (and-snd (ltb 0 n) (ltb n 15) (and-fst (ltb 0 n && ltb n 15) _ t))
 
 pub sound-other : (n : ℕ) → T (sound-number n) → 4 ≡ n → ⊥
 sound-other n t e = rw (← e) at t

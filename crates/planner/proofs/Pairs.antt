@@ -16,7 +16,7 @@ use Rattle.sets.specs.Sets.{has}
 use Rattle.planner.specs.List.{first-of, second-of, pairs-of, order-at}
 use Rattle.refusal.specs.Table.{Clear}
 use Rattle.planner.specs.Inner.Numbers.{Numbers}
-use Rattle.planner.specs.Inner.List.{Held, Spells, Closes, TakesIn}
+use Rattle.planner.specs.Inner.Entries.{Held, Spells, Closes, TakesIn}
 use Rattle.book.proofs.Empty.{zeros}
 use Rattle.sets.proofs.Bits.{empty-has}
 use Rattle.planner.proofs.Orders.{held-left, loop-left}

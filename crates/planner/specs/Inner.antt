@@ -4,5 +4,7 @@ pub mod Tighten
 pub mod Rows
 pub mod Numbers
 pub mod Requests
+pub mod Entries
 pub mod List
+pub mod Late
 pub mod Memory

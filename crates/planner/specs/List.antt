@@ -28,9 +28,13 @@ pairs-of pairs (suc n) = pairs-of pairs n ++ ((first-of pairs n, second-of pairs
 abbrev pub list-of : List ℕ → List ℕ → List ℕ → Listed
 list-of starts deadlines pairs = record { starts = starts; deadlines = deadlines; orders = pairs-of pairs (length pairs / 2) }
 
--- 7: starts and deadlines differ in length, the pair row is odd, or the receiving row is shorter than the starts (01, Numbers of refusal)
+-- 7: "starts and deadlines differ in length, the pair row is odd", with or without a row that receives (01, Numbers of refusal)
+abbrev pub Uneven : List ℕ → List ℕ → List ℕ → Type 0
+Uneven starts deadlines pairs = (length starts ≡ length deadlines → ⊥) ⊎ (length pairs % 2 ≡ 1)
+
+-- "or the receiving row is shorter than the starts"
 abbrev pub Misshapen : List ℕ → List ℕ → List ℕ → List ℕ → Type 0
-Misshapen starts deadlines pairs row = (length starts ≡ length deadlines → ⊥) ⊎ ((length pairs % 2 ≡ 1) ⊎ (length row < length starts))
+Misshapen starts deadlines pairs row = Uneven starts deadlines pairs ⊎ (length row < length starts)
 
 -- the checks of a job, of a pair, and of the loop that a pair closes with those before it, each with its place
 abbrev pub job-at : List ℕ → List ℕ → ℕ → Checks
@@ -42,14 +46,19 @@ pair-at size pairs p = held-checks p size (first-of pairs p) (second-of pairs p)
 abbrev pub order-at : List ℕ → ℕ → Checks
 order-at pairs p = loop-checks p (pairs-of pairs p) (first-of pairs p) (second-of pairs p)
 
--- "Whole list: 7, 1; then 2, 3 job by job", and "5 then 12 pair by pair, then 13 or 6 at the first pair that earns one, then 4" (02, A1), all but 4
+-- "then 2, 3 job by job", and "5 then 12 pair by pair, then 13 or 6 at the first pair that earns one" (02, A1)
+abbrev pub entries-checks : List ℕ → List ℕ → List ℕ → Checks
+entries-checks starts deadlines pairs =
+    places (length starts) (job-at starts deadlines)
+    then places (length pairs / 2) (pair-at (length starts) pairs)
+    then places (length pairs / 2) (order-at pairs)
+
+-- "Whole list: 7, 1", then its entries, all but 4
 abbrev pub rows-checks : List ℕ → List ℕ → List ℕ → List ℕ → Checks
 rows-checks starts deadlines pairs row =
     check 7 0 (Misshapen starts deadlines pairs row)
     then check 1 0 (64 < length starts)
-    then places (length starts) (job-at starts deadlines)
-    then places (length pairs / 2) (pair-at (length starts) pairs)
-    then places (length pairs / 2) (order-at pairs)
+    then entries-checks starts deadlines pairs
 
 -- a list that earns no refusal before 4
 abbrev pub SoundRows : List ℕ → List ℕ → List ℕ → List ℕ → Type 0

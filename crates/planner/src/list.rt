@@ -1,164 +1,31 @@
 // The whole list at once.
-use crate::chains;
 use crate::chains::Pending;
+use crate::entries;
 use crate::rows;
 use crate::tighten;
-use crate::times::fault;
 use refusal::Answer;
-use schedule::JobIndex;
-ghost use mathlib.Core.Path.{_≡_};
-ghost use Prim.Native.Nat.{ℕ, _/_, _≤_, _<_};
-ghost use lib.Dec.{T};
-ghost use lib.ListN.{length, getD};
-ghost use Rattle.sets.specs.Sets.{has};
+ghost use Prim.Native.Nat.{_≤_};
+ghost use lib.ListN.{length};
 ghost use Rattle.refusal.specs.Says.{Says};
-ghost use Rattle.refusal.specs.Table.{places};
-ghost use Rattle.planner.specs.List.{Judges, judged, job-at, pair-at};
-ghost use Rattle.planner.specs.Inner.Numbers.{Numbers};
-ghost use Rattle.planner.specs.Inner.List.{Held, Spells, Closes, Loops, TakesIn, Settleable, Settles};
-
-// The number of the first fault of a search, and its place; 0 for none.
-struct Found {
-    number: u8,
-    place: usize,
-}
+ghost use Rattle.planner.specs.List.{Judges, judged};
+ghost use Rattle.planner.specs.Inner.List.{Judgeable, Settles};
 
 // The list judged, and its latest times in the receiving row; a refusal leaves the row as it was.
 pub fn judge(starts: &[u16], deadlines: &[u16], pairs: &[u16], latest: &mut [u16]) -> Answer
     ensures { λ r. ⌜ Says r (λ n v. Judges (now (starts .entry)) (now (deadlines .entry)) (now (pairs .entry)) (now (latest .entry)) (judged (now (latest .exit)) n v)) ⌝ }
 {
-    let size = starts.len();
-    if size != deadlines.len() {
+    if entries::uneven(starts, deadlines, pairs) {
         return Answer::Refused(7, 0);
     }
-    if pairs.len() % 2 == 1 {
+    if latest.len() < starts.len() {
         return Answer::Refused(7, 0);
-    }
-    if latest.len() < size {
-        return Answer::Refused(7, 0);
-    }
-    if size > 64 {
-        return Answer::Refused(1, 0);
-    }
-    let job = unsound_job(starts, deadlines);
-    if job.number != 0 {
-        return Answer::Refused(job.number, job.place);
-    }
-    let stray = unheld_pair(pairs, size);
-    if stray.number != 0 {
-        return Answer::Refused(stray.number, stray.place);
     }
     let mut rows = [0u64; 64];
-    let closing = looping_pair(size, pairs, &mut rows);
-    if closing.number != 0 {
-        return Answer::Refused(closing.number, closing.place);
+    let found = entries::faulty(starts, deadlines, pairs, &mut rows);
+    if found.number != 0 {
+        return Answer::Refused(found.number, found.place);
     }
     settle(starts, deadlines, &rows, latest)
-}
-
-// The first job with a fault of its own.
-fn unsound_job(starts: &[u16], deadlines: &[u16]) -> Found
-    requires { ⌜ length (now starts) ≡ length (now deadlines) ⌝ }
-    ensures { λ r. ⌜ Numbers (places (length (now (starts .entry))) (job-at (now (starts .entry)) (now (deadlines .entry)))) (r .number) (r .place) ⌝ }
-{
-    let mut i: usize = 0;
-    while i < starts.len() {
-        let number = fault(starts[i], deadlines[i]);
-        if number != 0 {
-            return Found { number, place: i };
-        }
-        i += 1;
-    }
-    Found {
-        number: 0,
-        place: 0,
-    }
-}
-
-// The first pair that names a job not held.
-fn unheld_pair(pairs: &[u16], size: usize) -> Found
-    ensures { λ r. ⌜ Numbers (places (length (now (pairs .entry)) / 2) (pair-at size (now (pairs .entry)))) (r .number) (r .place) ⌝ }
-{
-    let count = pairs.len() / 2;
-    let mut p: usize = 0;
-    while p < count {
-        if named(pairs, 2 * p).0 >= size {
-            return Found {
-                number: 5,
-                place: p,
-            };
-        }
-        if named(pairs, 2 * p + 1).0 >= size {
-            return Found {
-                number: 12,
-                place: p,
-            };
-        }
-        p += 1;
-    }
-    Found {
-        number: 0,
-        place: 0,
-    }
-}
-
-// The job that a pair names.
-fn named(pairs: &[u16], at: usize) -> JobIndex
-    requires { ⌜ at < length (now pairs) ⌝ }
-    ensures { λ r. ⌜ r .0 ≡ getD (now (pairs .entry)) at 0 ⌝ }
-{
-    JobIndex(pairs[at] as usize)
-}
-
-// The first pair that closes a loop with those before it; the rows take in those before it.
-fn looping_pair(size: usize, pairs: &[u16], rows: &mut [u64; 64]) -> Found
-    requires { ⌜ (size ≤ 64) × Held size (now pairs) × Spells (now pairs) 0 (now rows) ⌝ }
-    ensures { λ r. ⌜ Loops (now (pairs .entry)) (now (rows .exit)) (r .number) (r .place) ⌝ }
-{
-    let count = pairs.len() / 2;
-    let mut p: usize = 0;
-    while p < count {
-        let first = named(pairs, 2 * p);
-        let second = named(pairs, 2 * p + 1);
-        let number = closes(rows, first, second);
-        if number != 0 {
-            return Found { number, place: p };
-        }
-        follow(size, rows, first, second);
-        p += 1;
-    }
-    Found {
-        number: 0,
-        place: 0,
-    }
-}
-
-// The number of the loop that a before b would close, and 0 for none.
-fn closes(rows: &[u64; 64], a: JobIndex, b: JobIndex) -> u8
-    requires { ⌜ (a .0 < 64) × (b .0 < 64) ⌝ }
-    ensures { λ r. ⌜ Closes (now (rows .entry)) (a .0) (b .0) r ⌝ }
-{
-    let first = a.0;
-    if first == b.0 {
-        return 13;
-    }
-    if sets::has(rows[first], b) {
-        return 6;
-    }
-    0
-}
-
-// Job a before job b, unless that already follows.
-fn follow(size: usize, rows: &mut [u64; 64], a: JobIndex, b: JobIndex)
-    requires { ⌜ (length (now rows) ≡ 64) × (size ≤ 64) × (a .0 < size) × (b .0 < size) × ((y : ℕ) → size ≤ y → T (has (getD (now rows) y 0) (b .0)) → ⊥) ⌝ }
-    ensures { λ _. ⌜ TakesIn (a .0) (b .0) (now (rows .entry)) (now (rows .exit)) ⌝ }
-{
-    let first = a.0;
-    let second = b.0;
-    if !sets::has(rows[second], a) {
-        let more = sets::with(rows[first], a);
-        chains::link(size, rows, Pending { job: b, more });
-    }
 }
 
 // The last check: the latest times handed over, or refusal 4.
@@ -168,7 +35,7 @@ fn settle<'a>(
     before: &'a [u64; 64],
     latest: &mut [u16],
 ) -> Answer
-    requires { ⌜ Settleable (now starts) (now deadlines) (now before) (now latest) ⌝ }
+    requires { ⌜ Judgeable (now starts) (now deadlines) (now before) × (length (now starts) ≤ length (now latest)) ⌝ }
     ensures { λ r. ⌜ Says r (λ n v. Settles (now (starts .entry)) (now (deadlines .entry)) (now (before .entry)) (now (latest .entry)) (judged (now (latest .exit)) n v)) ⌝ }
 {
     let size = starts.len();

@@ -23,10 +23,10 @@ abbrev pub value-of : Answer → ℕ
 value-of (Accepted value) = value
 value-of (Refused number value) = value
 
--- "room 1, 8, 9; request 2, 3, 5, 6; plan 4; form 7, 10, 11; every other number has class none"; and 12, 13, "both of class request" (02, A1)
+-- "room 1, 8, 9; request 2, 3, 5, 6; plan 4; form 7, 10, 11; every other number has class none"; 12, 13, "both of class request" (02, A1); "14 .. class form" (02, A2)
 abbrev pub class-of : ℕ → Class
 class-of n =
     cond (eqb n 1 || eqb n 8 || eqb n 9) Room
     (cond (eqb n 2 || eqb n 3 || eqb n 5 || eqb n 6 || eqb n 12 || eqb n 13) Request
     (cond (eqb n 4) Plan
-    (cond (eqb n 7 || eqb n 10 || eqb n 11) Form None)))
+    (cond (eqb n 7 || eqb n 10 || eqb n 11 || eqb n 14) Form None)))

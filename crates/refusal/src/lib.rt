@@ -45,7 +45,7 @@ pub fn class_of(number: u8) -> Class
         1 | 8..=9 => Class::Room,
         2..=3 | 5..=6 | 12..=13 => Class::Request,
         4 => Class::Plan,
-        7 | 10..=11 => Class::Form,
+        7 | 10..=11 | 14 => Class::Form,
         _ => Class::None,
     }
 }

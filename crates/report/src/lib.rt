@@ -3,7 +3,11 @@ mod jobs;
 mod line;
 mod lines;
 
+// The lines that a verdict has too.
 use jobfile::Event;
+pub use line::refused;
+pub use line::stopped;
+pub use line::too_long;
 ghost use mathlib.Core.Path.{_≡_};
 ghost use Rattle.jobfile.specs.Reader.{Tells};
 ghost use Rattle.text.specs.Put.{Puts};

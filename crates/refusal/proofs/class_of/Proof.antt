@@ -2,7 +2,9 @@
 -- Assumes nothing.
 use Prim.Native.Nat.{ℕ, _≤_}
 use native.Mathlib.Omega.{arith}
-use mathlib.Core.Path.{_≡_, refl}
+use mathlib.Core.Logic.{inl, inr, ⊎-elim}
+use mathlib.Core.Path.{_≡_, refl, sym}
+use native.Mathlib.Nat.{eq-or-lt-of-le}
 use borrow.Author.Tests.{ne-eqb}
 use Rattle.refusal.specs.declared.Class.{Class}
 use Rattle.refusal.specs.declared.Class.the-variants.{Room, Request, Form, None}
@@ -15,8 +17,8 @@ use Rattle.refusal.proofs.class_of.Tie as tie
 abbrev Unless : ℕ → Class → ℕ → Type 0
 Unless k x m = (m ≡ k → ⊥) → x ≡ class-of m
 
--- no class past 13
-far : (n : ℕ) → 14 ≤ n → None ≡ class-of n
+-- no class past 14
+far : (n : ℕ) → 15 ≤ n → None ≡ class-of n
 far n h =
     simp (
       ne-eqb n 1 (λ q. omega arith),
@@ -32,6 +34,7 @@ far n h =
       ne-eqb n 11 (λ q. omega arith),
       ne-eqb n 12 (λ q. omega arith),
       ne-eqb n 13 (λ q. omega arith),
+      ne-eqb n 14 (λ q. omega arith),
     )
 
 returns : tie.Need-returns
@@ -47,10 +50,10 @@ returns-4 : tie.Need-returns-4
 returns-4 c = within (Unless 1 None) 0 2 (c .before .before .args .number) (omega arith) (omega arith) (λ h. refl, (λ h. absurd (h refl), tt)) (c .before .match .rest .0 .0 .1)
 
 returns-5 : tie.Need-returns-5
-returns-5 c = far (c .before .before .before .before .before .before .args .number) (omega arith)
+returns-5 c = ⊎-elim (λ e. absurd (c .before .before .before .before .before .match .rest .1 (inr (sym e)))) (λ l. far (c .before .before .before .before .before .before .args .number) l) (eq-or-lt-of-le (omega arith))
 
 returns-6 : tie.Need-returns-6
-returns-6 c = rw (c .match .keys3) refl
+returns-6 c = ⊎-elim (λ e. rw e refl) (λ e. rw e refl) (c .match .keys3)
 
 returns-7 : tie.Need-returns-7
 returns-7 c = within (λ (m : ℕ). Form ≡ class-of m) 10 2 (c .before .before .before .before .before .args .number) (omega arith) (omega arith) (refl, (refl, tt))
@@ -59,7 +62,7 @@ returns-8 : tie.Need-returns-8
 returns-8 c = rw (c .match .keys1) refl
 
 returns-9 : tie.Need-returns-9
-returns-9 c = within (Unless 7 Room) 7 3 (c .before .before .before .before .args .number) (omega arith) (omega arith) (λ h. absurd (h refl), (λ h. refl, (λ h. refl, tt))) (c .before .before .before .match .rest .1)
+returns-9 c = within (Unless 7 Room) 7 3 (c .before .before .before .before .args .number) (omega arith) (omega arith) (λ h. absurd (h refl), (λ h. refl, (λ h. refl, tt))) (λ e. c .before .before .before .match .rest .1 (inl e))
 
 pub class-of-spec : {M : Type 1} → statement M
 class-of-spec =

@@ -19,8 +19,8 @@ none-requires c κs = search needs
 tighten-requires : tie.Need-tighten-requires
 tighten-requires c κs =
     let due = c .before .before .before in
-    let s = due .before .before .before .before .before .pre in
-    nothing-ready _ _ _ _ _ (c .before .none .ensures) (s .rows) (hands-tightenable _ _ _ _ _ s (due .hand-over .ensures))
+    let s = due .before .before .before .before .before .pre .0 in
+    nothing-ready _ _ _ _ _ (c .before .none .ensures) (s .rows) (hands-tightenable _ _ _ _ s (due .hand-over .ensures))
 
 slice-aggregate-hand-over-2 : tie.Need-slice-aggregate-hand-over-2
 slice-aggregate-hand-over-2 c = search needs
@@ -35,18 +35,18 @@ returns : tie.Need-returns
 returns c =
     let t = c .before .before .before .before .before .before in
     let due = t .before .before .before .before in
-    let s = due .before .before .before .before .before .pre in
-    settles-fits _ _ _ _ _ s (due .hand-over .ensures) _ _
-    (nothing-tight _ _ _ _ _ _ _ _ (t .before .before .none .ensures) (s .rows) (t .tighten .ensures)) _ (c .before .before .before .before .before .if1 .taken) (c .before .before .hand-over2 .ensures)
+    let s = due .before .before .before .before .before .pre .0 in
+    settles-fits _ _ _ _ s (due .hand-over .ensures) _ _
+    (nothing-tight _ _ _ _ _ _ _ _ (t .before .before .none .ensures) (s .rows) (t .tighten .ensures)) _ _ (c .before .before .before .before .before .if1 .taken) (c .before .before .hand-over2 .ensures)
 
 returns-2 : tie.Need-returns-2
 returns-2 c =
     let t = c .before in
     let due = t .before .before .before .before in
-    let s = due .before .before .before .before .before .pre in (
+    let s = due .before .before .before .before .before .pre .0 in (
       omega arith,
-      settles-none _ _ _ _ _ s (due .hand-over .ensures) _ _
-          (nothing-tight _ _ _ _ _ _ _ _ (t .before .before .none .ensures) (s .rows) (t .tighten .ensures)) (c .if1 .left),
+      settles-none _ _ _ _ s (due .hand-over .ensures) _ _
+          (nothing-tight _ _ _ _ _ _ _ _ (t .before .before .none .ensures) (s .rows) (t .tighten .ensures)) _ (c .if1 .left),
     )
 
 pub settle-spec : {M : Type 1} → statement M
