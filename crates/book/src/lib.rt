@@ -1,4 +1,7 @@
 // A book of jobs as it lies in lent memory, and its parts.
+
+#![tactic(auto)]
+
 ghost use Rattle.std.specs.Prelude.{◌≡◌, ◌+◌, ◌≤◌, length};
 ghost use Rattle.book.specs.Told.{Told, part, book_in, nothing_listed};
 

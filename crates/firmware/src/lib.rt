@@ -1,4 +1,7 @@
 // The planner for firmware in C and Rust: numbers and lent memory alone. A book lies in memory as two parts, its times and its sets.
+
+#![tactic(auto)]
+
 mod file;
 mod list;
 mod plans;

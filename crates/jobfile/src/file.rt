@@ -8,7 +8,7 @@ use crate::reader::Event;
 use book::{Before, Times};
 
 // How many records were read, how far, and why it ended there.
-#[derive(Drop)]
+#[derive(Clone, Copy)]
 pub struct Ended {
     pub records: usize,
     pub at: usize,

@@ -1,4 +1,7 @@
 // Job files: one record read at an offset, a whole file read, a book written out.
+
+#![tactic(auto)]
+
 mod file;
 mod reader;
 mod writer;

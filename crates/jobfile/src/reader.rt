@@ -9,7 +9,7 @@ use records::{Found, Record};
 use refusal::Answer;
 use schedule::JobIndex;
 
-#[derive(Drop)]
+#[derive(Clone, Copy)]
 pub enum Event {
     Request(Answer),
     End,

@@ -1,4 +1,7 @@
 // Reads keyed text from standard input and writes its job file; a mistake is one line on standard error, and nothing is written.
+
+#![tactic(auto)]
+
 use keying::{Keyed, Mistake, Slip};
 use libc::STDERR_FILENO;
 

@@ -8,7 +8,7 @@ use crate::word::Word;
 use records::{Found, Record};
 
 // What can be wrong with a keyed text.
-#[derive(Drop)]
+#[derive(Clone, Copy)]
 pub enum Slip {
     UnknownWord,
     MissingField,
@@ -20,13 +20,13 @@ pub enum Slip {
 }
 
 // How many words there are, up to 3, and the record that they tell, with 0 for a field to come.
-#[derive(Drop)]
+#[derive(Clone, Copy)]
 pub struct Entry {
     pub filled: u8,
     pub told: Record,
 }
 
-#[derive(Drop)]
+#[derive(Clone, Copy)]
 pub enum Taken {
     Grown(Entry),
     Wrong(Slip),

@@ -11,7 +11,7 @@ use crate::reader;
 use crate::reader::{Reader, Went};
 use records::Record;
 
-#[derive(Drop)]
+#[derive(Clone, Copy)]
 pub struct Mistake {
     // counted from 1
     pub line: usize,
@@ -23,7 +23,7 @@ pub struct Mistake {
     pub size: usize,
 }
 
-#[derive(Drop)]
+#[derive(Clone, Copy)]
 pub enum Keyed {
     // bytes written
     Written(usize),

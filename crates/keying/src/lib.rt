@@ -1,4 +1,7 @@
 // Keyed text and job files: lines such as `JB 0 4` become the records of document 01, and records become lines.
+
+#![tactic(auto)]
+
 mod entry;
 mod keyed;
 mod lined;

@@ -14,7 +14,7 @@ const COMMA: u8 = b',';
 
 const HASH: u8 = b'#';
 
-#[derive(Drop)]
+#[derive(Clone, Copy)]
 pub struct Reader {
     // counted from 1
     pub line: usize,
@@ -27,7 +27,7 @@ pub struct Reader {
     pub word: Word,
 }
 
-#[derive(Drop)]
+#[derive(Clone, Copy)]
 pub enum Went {
     On(Reader),
     // an entry ended

@@ -2,7 +2,7 @@
 ghost use Rattle.std.specs.Prelude.{◌≡◌, ◌+◌, ◌<◌, ◌^◌};
 ghost use Rattle.keying.specs.Inner.Machine.{no_word, number_with, word_with, word_mark};
 
-#[derive(Drop)]
+#[derive(Clone, Copy)]
 pub struct Word {
     pub size: usize,
     pub high: u8,

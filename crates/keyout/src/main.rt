@@ -1,4 +1,7 @@
 // Reads a job file from standard input and writes its records as lines; what stops it is one line on standard error, and nothing is written.
+
+#![tactic(auto)]
+
 use libc::STDERR_FILENO;
 use refusal::Answer;
 

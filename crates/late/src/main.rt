@@ -1,5 +1,7 @@
 // Reads a job file from standard input and prints its verdict; a read or a write that fails is one line on standard error.
 
+#![tactic(auto)]
+
 fn main() {
     // one byte more than a job file may have, so that a longer one is seen
     let mut file = [0u8; 24577];

@@ -10,7 +10,7 @@ use book::Before;
 use schedule::{JobIndex, SlotTime};
 
 // The first job in order, and the first of the others.
-#[derive(Drop)]
+#[derive(Clone, Copy)]
 pub struct Chosen {
     pub best: JobIndex,
     pub next: JobIndex,

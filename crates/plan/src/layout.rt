@@ -9,7 +9,7 @@ use book::{Before, Times};
 use schedule::{CoreIndex, JobIndex, SlotTime};
 
 // Each job's slot, the jobs on core 1, and the finishing time.
-#[derive(Drop)]
+#[derive(Clone, Copy)]
 pub struct Layout {
     pub slot: [u16; 64],
     pub on_core_1: u64,
@@ -17,7 +17,7 @@ pub struct Layout {
 }
 
 // The jobs not yet placed, of those placed the jobs on core 1, and the next slot to serve.
-#[derive(Drop)]
+#[derive(Clone, Copy)]
 pub struct Stage {
     pub left: u64,
     pub on_core_1: u64,

@@ -1,4 +1,7 @@
 // The plan of a book: its bytes, a span of them, the place of one job.
+
+#![tactic(auto)]
+
 mod bytes;
 mod choice;
 mod layout;

@@ -1,7 +1,7 @@
 // What is told of the place of a job.
 use schedule::{CoreIndex, SlotTime};
 
-#[derive(Drop)]
+#[derive(Clone, Copy)]
 pub struct Place {
     pub slot: SlotTime,
     pub core: CoreIndex,
@@ -9,7 +9,7 @@ pub struct Place {
     pub spare: usize,
 }
 
-#[derive(Drop)]
+#[derive(Clone, Copy)]
 pub enum Placed {
     At(Place),
     // the number of the refusal, and what is returned with it

@@ -6,7 +6,7 @@ ghost use Rattle.planner.specs.Inner.Chains.{nothing, joined_of, joined_rows};
 use schedule::JobIndex;
 
 // An order that the rows do not have yet: a job, and what it and all that follow it are to wait for.
-#[derive(Drop)]
+#[derive(Clone, Copy)]
 pub struct Pending {
     pub job: JobIndex,
     pub more: u64,

@@ -13,7 +13,7 @@ use crate::times::fault;
 use schedule::JobIndex;
 
 // The number of the first fault of a search, and its place; 0 for none.
-#[derive(Drop)]
+#[derive(Clone, Copy)]
 pub struct Found {
     pub number: u8,
     pub place: usize,

@@ -12,7 +12,7 @@ use crate::times::wide;
 use crate::{entries, tighten};
 use refusal::Answer;
 
-#[derive(Drop)]
+#[derive(Clone, Copy)]
 pub enum Late {
     // the least maximum lateness, in slots; below 0 where every job can end before its deadline
     By(i16),
@@ -20,7 +20,7 @@ pub enum Late {
 }
 
 // How deadlines are tried at a number: all moved by the number less 4096, or each at most the number.
-#[derive(Drop)]
+#[derive(Clone, Copy)]
 enum Trial {
     Moved,
     Capped,

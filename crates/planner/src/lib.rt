@@ -1,4 +1,7 @@
 // The planner: what a buoy runs. The layers are private; what is public here are the calls of document 01 that change or judge a list.
+
+#![tactic(auto)]
+
 mod chains;
 mod entries;
 mod late;

@@ -11,7 +11,7 @@ use book::{Before, Times};
 use refusal::Answer;
 use schedule::JobIndex;
 
-#[derive(Drop)]
+#[derive(Clone, Copy)]
 pub enum Request {
     // start, deadline
     Job(u16, u16),

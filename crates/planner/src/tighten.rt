@@ -18,7 +18,7 @@ use crate::chains::Pending;
 use crate::times::{time_at, wide};
 
 // Which jobs moved; Shut where some job has no time left.
-#[derive(Drop)]
+#[derive(Clone, Copy)]
 enum Moved {
     Those(u64),
     Shut,
@@ -118,7 +118,7 @@ fn pass<'a>(
 }
 
 // The jobs of a set whose time is below a limit, and the greatest such time.
-#[derive(Drop)]
+#[derive(Clone, Copy)]
 struct Due {
     d: usize,
     jobs: u64,

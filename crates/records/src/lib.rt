@@ -1,4 +1,7 @@
 // Records of a job file: the one at an offset found, one stored at an offset.
+
+#![tactic(auto)]
+
 mod word;
 
 ghost use Rattle.std.specs.Prelude.{true, ◌≡◌, ◌+◌, ◌≤◌, length};
@@ -17,7 +20,7 @@ const OR: u16 = 0x4f52;
 
 const TG: u16 = 0x5447;
 
-#[derive(Drop)]
+#[derive(Clone, Copy)]
 pub enum Record {
     // start, deadline
     Job(u16, u16),
@@ -27,7 +30,7 @@ pub enum Record {
     Deadline(u16, u16),
 }
 
-#[derive(Drop)]
+#[derive(Clone, Copy)]
 pub enum Found {
     Record(Record),
     End,

@@ -1,8 +1,11 @@
 // Answers, the numbers of refusal and their classes.
+
+#![tactic(auto)]
+
 ghost use Rattle.std.specs.Prelude.{◌≡◌};
 ghost use Rattle.refusal.specs.Says.{number_of, value_of, class_of};
 
-#[derive(Drop)]
+#[derive(Clone, Copy)]
 pub enum Answer {
     // what is answered
     Accepted(usize),
@@ -10,7 +13,7 @@ pub enum Answer {
     Refused(u8, usize),
 }
 
-#[derive(Drop)]
+#[derive(Clone, Copy)]
 pub enum Class {
     Room,
     Request,

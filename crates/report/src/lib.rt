@@ -1,4 +1,7 @@
 // The listing of a job file, made on lent bytes.
+
+#![tactic(auto)]
+
 mod jobs;
 mod line;
 mod lines;

@@ -1,4 +1,7 @@
 // Sets of jobs in 64 bits. A set has none of the jobs from 64 on.
+
+#![tactic(auto)]
+
 ghost use Rattle.std.specs.Prelude.{◌≡◌};
 ghost use Rattle.schedule.specs.Count.{count};
 ghost use Rattle.sets.specs.Sets.{has, With, Without, Below, First, Rest};

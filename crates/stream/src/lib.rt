@@ -1,4 +1,7 @@
 // Standard input and output of the programs: what fails is told on standard error.
+
+#![tactic(auto)]
+
 ghost use Rattle.std.specs.Prelude.{◌≤◌, length};
 
 // Whether the input has ended, asked after a read came back short: a read that fails is told, and so is one that brings more, since the one before it failed.

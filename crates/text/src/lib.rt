@@ -1,4 +1,7 @@
 // Text put into lent bytes from a place on. What finds no room is not written; the answer is the place behind the last byte written.
+
+#![tactic(auto)]
+
 ghost use Rattle.std.specs.Prelude.{[], ◌∷◌};
 ghost use Rattle.text.specs.Text.{decimal};
 ghost use Rattle.text.specs.Fill.{piece as piece_text, filled};

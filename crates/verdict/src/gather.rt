@@ -4,21 +4,21 @@ ghost use Rattle.verdict.specs.Inner.Gather.{Room, Enters, Gathers, ForRecords, 
 use records::{Found, Record};
 
 // How many entries the rows have.
-#[derive(Drop)]
+#[derive(Clone, Copy)]
 pub struct Sizes {
     pub jobs: usize,
     // two for each pair
     pub paired: usize,
 }
 
-#[derive(Drop)]
+#[derive(Clone, Copy)]
 pub enum Gathered {
     Whole(Sizes),
     // number of refusal, value
     Stopped(u8, usize),
 }
 
-#[derive(Drop)]
+#[derive(Clone, Copy)]
 pub enum Drawn {
     All,
     // the place of a record that names no job of the file

@@ -1,4 +1,7 @@
 // The verdict on a job file: how late its list is, and how short a plan of it can be.
+
+#![tactic(auto)]
+
 mod gather;
 mod lines;
 
