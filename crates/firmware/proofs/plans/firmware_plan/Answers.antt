@@ -1,0 +1,11 @@
+use borrow.Author.Rules.{rules}
+use Rattle.refusal.proofs.Says.{says_told}
+use Rattle.book.specs.Told.{book_in}
+use Rattle.plan.specs.Plan.{Plans}
+use Rattle.firmware.proofs.plans.firmware_plan.Goals as goal
+
+pub returns : goal.returns
+returns c =
+    let a = c.args in
+    rw (c.number.ensures, c.value.ensures)
+    (says_told (Plans (book_in a.times.now a.before.now) a.out.now c.plan-told.new.1.1.0) c.plan-told.result c.plan-told.ensures)

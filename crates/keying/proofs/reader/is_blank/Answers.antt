@@ -1,0 +1,15 @@
+use borrow.Author.Tests.{eq-eqb, ne_eqb}
+use Rattle.keying.specs.Text.{blank}
+use Rattle.keying.proofs.reader.is_blank.Goals as goal
+
+pub returns-then-byte-eq32 : goal.returns-then-byte-eq32
+unfolding blank
+returns-then-byte-eq32 c = simp (eq-eqb _ _ c.if-byte-eq32.true)
+
+pub returns-then-byte-eq9 : goal.returns-then-byte-eq9
+unfolding blank
+returns-then-byte-eq9 c = simp (ne_eqb _ _ c.if-byte-eq32.false, eq-eqb _ _ c.if-byte-eq9.true)
+
+pub returns : goal.returns
+unfolding blank
+returns c = simp (ne_eqb _ _ c.if-byte-eq32.false, ne_eqb _ _ c.if-byte-eq9.false)

@@ -1,0 +1,7 @@
+use mathlib.Core.Path.{sym, ◌∙◌}
+use borrow.Author.Rules.{rules}
+use Rattle.planner.proofs.Pending.{rows_at}
+use Rattle.planner.proofs.chains.row_of.Goals as goal
+
+pub returns : goal.returns
+returns c = c.joined.ensures ∙ sym (rows_at _ _ _ c.requires.0)

@@ -1,0 +1,14 @@
+-- `planner::rows::hand_over` meets its contract. The invariant: the first i times are handed over.
+use Prim.Native.Nat.{◌-◌, ◌≤◌}
+use mathlib.Core.Path.{◌≡◌}
+use native.Mathlib.Omega.{arith}
+use borrow.Author.Rules.{rules}
+use Rattle.planner.specs.Inner.Rows.{Hands}
+use Rattle.planner.proofs.HandedOver.{hands_none, hands_more}
+use Rattle.planner.proofs.rows.hand_over.Given as goal
+
+abbrev pub invariant-loop-i : goal.invariant-loop-i
+invariant-loop-i l = (l.i ≤ l.size) × Hands l.i l.times l.initial.row l.row
+
+abbrev pub decreases-loop-i : goal.decreases-loop-i
+decreases-loop-i l = l.size - l.i

@@ -1,0 +1,16 @@
+use mathlib.Core.Logic.{⊎_elim}
+use Prim.Native.Nat.{◌<◌}
+use native.Mathlib.Omega.{arith}
+use lib.Dec.{T}
+use Rattle.schedule.specs.Count.{count}
+use Rattle.sets.specs.Sets.{has}
+use Rattle.sets.proofs.Bits.{rest_less}
+use Rattle.planner.proofs.TightenEarly.{Reached, reached_start, reached_same, reached_more, reached_after}
+use borrow.Author.Rules.{rules}
+use Rattle.planner.proofs.tighten.early.after.Given as goal
+
+abbrev pub invariant-loop-rest : goal.invariant-loop-rest
+invariant-loop-rest l = Reached l.start l.set l.early l.time l.rest
+
+abbrev pub decreases-loop-rest : goal.decreases-loop-rest
+decreases-loop-rest l = count 64 (has l.rest)

@@ -1,0 +1,19 @@
+-- `lines::slots` meets its contract. The invariant: the lines of the slots passed are put.
+use mathlib.Core.List.{List}
+use mathlib.Core.Path.{◌≡◌}
+use Prim.Native.Nat.{ℕ, ◌+◌, ◌-◌, ◌*◌, ◌/◌, ◌≤◌}
+use native.Mathlib.Omega.{arith}
+use borrow.Author.Rules.{rules}
+use lib.ListN.{length, get_or}
+use Rattle.text.specs.Text.{each}
+use Rattle.text.specs.Put.{Puts}
+use Rattle.text.proofs.Putting.{puts_length}
+use Rattle.text.proofs.Each.{each_none, each_next}
+use Rattle.report.specs.Line.{slot_line}
+use Rattle.report.proofs.lines.slots.Given as goal
+
+abbrev pub invariant-loop-slot : goal.invariant-loop-slot
+invariant-loop-slot l = (l.slot-end ≡ length l.plan / 2) × (l.slot ≤ length l.plan / 2) × Puts (each l.slot (part l.plan)) l.at l.initial.out l.out l.next
+
+abbrev pub decreases-loop-slot : goal.decreases-loop-slot
+decreases-loop-slot l = l.slot-end - l.slot
