@@ -3,78 +3,61 @@
 #![tactic(auto)]
 
 use keying::{Keyed, Mistake, Slip};
-use libc::STDERR_FILENO;
+use std::io;
 
 // One byte more than the longest text, to tell a longer one.
-fn main() {
+fn main(rt: HostRuntime) {
     let mut text = [0u8; 262145];
     let mut file = [0u8; 24576];
-    let n = io::read_full(0, &mut text);
+    let n = stream::read_full(&rt, &mut text);
     if n == 262145 {
-        io::write_all(STDERR_FILENO, b"text over 262144 bytes\n");
+        let _ = eprintln!(&rt; "text over 262144 bytes");
         return;
     }
-    if !stream::ended() {
+    if !stream::ended(&rt) {
         return;
     }
     match keying::key(&text[..n], &mut file) {
-        Keyed::Written(size) => stream::write_whole(&file[..size]),
-        Keyed::Mistake(mistake) => tell(&text[..n], mistake),
+        Keyed::Written(size) => stream::write_whole(&rt, &file[..size]),
+        Keyed::Mistake(mistake) => {
+            let _ = tell(&rt, &text[..n], mistake);
+        }
     }
 }
 
-fn tell(text: &[u8], mistake: Mistake) {
-    let slip = mistake.slip;
+fn tell(rt: &HostRuntime, text: &[u8], mistake: Mistake) -> io::Result<()> {
     let size = mistake.size;
-    io::write_all(STDERR_FILENO, b"line ");
-    io::print_decimal(STDERR_FILENO, mistake.line as u64);
-    io::write_all(STDERR_FILENO, b", entry ");
-    io::print_decimal(STDERR_FILENO, mistake.entry as u64);
-    name(slip);
+    eprint!(rt; "line {}, entry {}: {}", mistake.line, mistake.entry, name(mistake.slip))?;
     if size > 0 {
-        word(text, mistake.start, size);
+        word(rt, text, mistake.start, size)?;
     }
-    io::write_all(STDERR_FILENO, b"\n");
+    eprintln!(rt; "")
 }
 
-fn name(slip: Slip) {
+fn name(slip: Slip) -> &'static str {
     match slip {
-        Slip::UnknownWord => {
-            io::write_all(STDERR_FILENO, b": unknown word");
-        }
-        Slip::MissingField => {
-            io::write_all(STDERR_FILENO, b": missing field");
-        }
-        Slip::ExtraField => {
-            io::write_all(STDERR_FILENO, b": extra field");
-        }
-        Slip::NotNumber => {
-            io::write_all(STDERR_FILENO, b": not a number");
-        }
-        Slip::TooLarge => {
-            io::write_all(STDERR_FILENO, b": number too large");
-        }
-        Slip::TooMany => {
-            io::write_all(STDERR_FILENO, b": too many records");
-        }
-        Slip::CommaNumber => {
-            io::write_all(STDERR_FILENO, b": number with a comma");
-        }
+        Slip::UnknownWord => "unknown word",
+        Slip::MissingField => "missing field",
+        Slip::ExtraField => "extra field",
+        Slip::NotNumber => "not a number",
+        Slip::TooLarge => "number too large",
+        Slip::TooMany => "too many records",
+        Slip::CommaNumber => "number with a comma",
     }
 }
 
 // The word in quotes, cut after 32 bytes.
-fn word(text: &[u8], start: usize, size: usize) {
+fn word(rt: &HostRuntime, text: &[u8], start: usize, size: usize) -> io::Result<()> {
     let mut shown = [0u8; 32];
     spell(&mut shown, text, start);
-    io::write_all(STDERR_FILENO, b" '");
+    let mut told = rt.stderr();
+    told.write_all(b" '")?;
     if size > 32 {
-        io::write_all(STDERR_FILENO, &shown);
-        io::write_all(STDERR_FILENO, b"..'");
-        return;
+        told.write_all(&shown)?;
+        return told.write_all(b"..'");
     }
-    io::write_all(STDERR_FILENO, &shown[..size]);
-    io::write_all(STDERR_FILENO, b"'");
+    told.write_all(&shown[..size])?;
+    told.write_all(b"'")
 }
 
 // The bytes of the text from a place on.

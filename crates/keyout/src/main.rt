@@ -2,29 +2,24 @@
 
 #![tactic(auto)]
 
-use libc::STDERR_FILENO;
 use refusal::Answer;
 
 // One byte more than the longest file, to tell a longer one.
-fn main() {
+fn main(rt: HostRuntime) {
     let mut file = [0u8; 24577];
     let mut text = [0u8; 61440];
-    let n = io::read_full(0, &mut file);
+    let n = stream::read_full(&rt, &mut file);
     if n < 24577 {
-        if !stream::ended() {
+        if !stream::ended(&rt) {
             return;
         }
     }
     match keying::lines(&file[..n], &mut text) {
-        Answer::Accepted(size) => stream::write_whole(&text[..size]),
-        Answer::Refused(number, value) => tell(number as u64, value as u64),
+        Answer::Accepted(size) => stream::write_whole(&rt, &text[..size]),
+        Answer::Refused(number, value) => tell(&rt, number, value),
     }
 }
 
-fn tell(number: u64, value: u64) {
-    io::write_all(STDERR_FILENO, b"refused ");
-    io::print_decimal(STDERR_FILENO, number);
-    io::write_all(STDERR_FILENO, b" at ");
-    io::print_decimal(STDERR_FILENO, value);
-    io::write_all(STDERR_FILENO, b"\n");
+fn tell(rt: &HostRuntime, number: u8, value: usize) {
+    let _ = eprintln!(rt; "refused {number} at {value}");
 }

@@ -2,16 +2,16 @@
 
 #![tactic(auto)]
 
-fn main() {
+fn main(rt: HostRuntime) {
     // one byte more than a job file may have, so that a longer one is seen
     let mut file = [0u8; 24577];
-    let n = io::read_full(0, &mut file);
+    let n = stream::read_full(&rt, &mut file);
     if n < 24577 {
-        if !stream::ended() {
+        if !stream::ended(&rt) {
             return;
         }
     }
     let mut text = [0u8; 80];
     let length = verdict::verdict(&file[..n], &mut text);
-    stream::write_whole(&text[..length]);
+    stream::write_whole(&rt, &text[..length]);
 }

@@ -4,51 +4,96 @@
 
 ghost use Rattle.std.specs.Prelude.{◌≤◌, length};
 
-// Whether the input has ended, asked after a read came back short: a read that fails is told, and so is one that brings more, since the one before it failed.
-pub fn ended() -> bool {
-    let mut one = [0u8; 1];
-    let got = libc::read(0, &mut one);
-    if got == 0 {
-        return true;
+use std::io;
+use std::io::{ErrorKind, Read, Write};
+
+// The error of a read or a write that would have to wait.
+const EAGAIN: i32 = 11;
+
+// Reads until the buffer is full, the input has ended or a read fails, and says how many bytes came.
+pub fn read_full(rt: &HostRuntime, buf: &mut [u8]) -> usize
+    ensures { result ≤ length buf.new }
+{
+    let mut input = rt.stdin();
+    let mut done: usize = 0;
+    for _ in 0..u64::MAX {
+        if done == buf.len() {
+            return done;
+        }
+        match input.read(&mut buf[done..]) {
+            Ok(0) => return done,
+            Ok(got) => done += got,
+            Err(error) => {
+                if error.kind() != ErrorKind::Interrupted {
+                    return done;
+                }
+            }
+        }
     }
-    os::fail(b"standard input");
-    false
+    done
+}
+
+// Whether the input has ended, asked after a read came back short: a read that fails is told, and so is one that brings more, since the one before it failed.
+pub fn ended(rt: &HostRuntime) -> bool {
+    let mut one = [0u8; 1];
+    match rt.stdin().read(&mut one) {
+        Ok(0) => true,
+        Ok(_) => {
+            fail(rt, "standard input", io::Error::from_raw_os_error(EAGAIN));
+            false
+        }
+        Err(error) => {
+            fail(rt, "standard input", error);
+            false
+        }
+    }
 }
 
 // Writes all of the bytes to standard output. A write that would block or comes back short is tried again; one that fails is told.
-pub fn write_whole(buf: &[u8]) {
+pub fn write_whole(rt: &HostRuntime, buf: &[u8]) {
+    let mut output = rt.stdout();
     let mut done: usize = 0;
     let mut tries: usize = 1000000000;
     while done < buf.len() {
-        let put = write_some(&buf[done..]);
-        if put == 0 {
-            if tries == 0 {
-                os::fail(b"standard output");
+        match output.write(&buf[done..]) {
+            Ok(0) => {
+                fail(rt, "standard output", io::Error::from(ErrorKind::WriteZero));
                 return;
             }
-            if !waits() {
-                os::fail(b"standard output");
-                return;
+            Ok(put) => done += put,
+            Err(error) => {
+                if tries == 0 || !waits(error) {
+                    fail(rt, "standard output", error);
+                    return;
+                }
+                tries -= 1;
             }
-            tries -= 1;
         }
-        done += put;
     }
-}
-
-// How many bytes one write took.
-fn write_some(buf: &[u8]) -> usize
-    ensures { result ≤ length buf.now }
-{
-    let got = libc::write(libc::STDOUT_FILENO, buf);
-    io::count(got, buf)
 }
 
 // Whether the call that took nothing may take something later.
-fn waits() -> bool {
-    let error = os::errno();
-    if error == libc::EAGAIN {
-        return true;
+fn waits(error: io::Error) -> bool {
+    error.kind() == ErrorKind::WouldBlock || error.kind() == ErrorKind::Interrupted
+}
+
+// One line on standard error: where, and the system's words for what failed.
+fn fail(rt: &HostRuntime, place: &str, error: io::Error) {
+    if tell(rt, place, error).is_err() {
+        let _ = eprintln!(rt; "{place}: {error}");
     }
-    error == libc::EINTR
+}
+
+fn tell(rt: &HostRuntime, place: &str, error: io::Error) -> io::Result<()> {
+    let text = format!(in rt.alloc(); "{error}")?;
+    let words = words_of(text.as_str());
+    eprintln!(rt; "{place}: {words}")
+}
+
+// What the system says of an error, without its number.
+fn words_of(text: &str) -> &str {
+    match text.split_once(" (os error ") {
+        Some((words, _)) => words,
+        None => text,
+    }
 }

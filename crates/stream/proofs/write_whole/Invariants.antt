@@ -1,13 +1,9 @@
--- `stream::write_whole` is safe and ends: each turn writes bytes or uses up a try.
-use Prim.Native.Nat.{◌+◌, ◌-◌, ◌*◌, ◌≤◌}
-use native.Mathlib.Omega.{arith}
-use borrow.Author.Rules.{rules}
-use lib.ListN.{length, length-take, length-drop}
-use mathlib.Core.Logic.{⊎_elim}
+use Rattle.std.proofs.Common.{length, ◌-◌, ◌+◌, ◌≤◌}
 use Rattle.stream.proofs.write_whole.Given as goal
 
 abbrev pub invariant-loop-done : goal.invariant-loop-done
-invariant-loop-done l = (done ≤ length l.buf) × (tries ≤ 1000000000)
+invariant-loop-done l = l.done ≤ length l.buf
 
+-- a write either takes some bytes or uses up a try
 abbrev pub decreases-loop-done : goal.decreases-loop-done
-decreases-loop-done l = 1000000001 * (length l.buf - done) + tries
+decreases-loop-done l = length l.buf - l.done + l.tries
