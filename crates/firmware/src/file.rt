@@ -7,8 +7,7 @@ ghost use Rattle.jobfile.specs.Writer.{WritesBook};
 use book::{Before, Times};
 use jobfile::Event;
 
-#[unsafe(no_mangle)]
-pub extern "C" fn firmware_read(
+pub fn firmware_read(
     times: &mut Times,
     before: &mut Before,
     file: &[u8],
@@ -23,13 +22,7 @@ pub extern "C" fn firmware_read(
     number(event)
 }
 
-#[unsafe(no_mangle)]
-pub extern "C" fn firmware_write(
-    times: &Times,
-    before: &Before,
-    out: &mut [u8],
-    answer: &mut usize,
-) -> u8
+pub fn firmware_write(times: &Times, before: &Before, out: &mut [u8], answer: &mut usize) -> u8
     requires { Made (book_in times.now before.now) }
     ensures { WritesBook (book_in times.now before.now) out.old out.new result answer.new }
 {

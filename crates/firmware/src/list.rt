@@ -8,8 +8,7 @@ ghost use Rattle.firmware.specs.List.{FindsLateness, class_number};
 use planner::Late;
 use refusal::Class;
 
-#[unsafe(no_mangle)]
-pub extern "C" fn firmware_judge(
+pub fn firmware_judge(
     starts: &[u16],
     deadlines: &[u16],
     pairs: &[u16],
@@ -24,8 +23,7 @@ pub extern "C" fn firmware_judge(
 }
 
 // A refusal leaves the lateness lent.
-#[unsafe(no_mangle)]
-pub extern "C" fn firmware_lateness(
+pub fn firmware_lateness(
     starts: &[u16],
     deadlines: &[u16],
     pairs: &[u16],
@@ -48,13 +46,7 @@ pub extern "C" fn firmware_lateness(
     }
 }
 
-#[unsafe(no_mangle)]
-pub extern "C" fn firmware_shortest(
-    starts: &[u16],
-    deadlines: &[u16],
-    pairs: &[u16],
-    answer: &mut usize,
-) -> u8
+pub fn firmware_shortest(starts: &[u16], deadlines: &[u16], pairs: &[u16], answer: &mut usize) -> u8
     ensures { Shortens starts.now deadlines.now pairs.now result answer.new }
 {
     let told = planner::shortest(starts, deadlines, pairs);
@@ -62,8 +54,7 @@ pub extern "C" fn firmware_shortest(
     refusal::number(told)
 }
 
-#[unsafe(no_mangle)]
-pub extern "C" fn firmware_class(refusal: u8) -> u8
+pub fn firmware_class(refusal: u8) -> u8
     ensures { result ≡ class_number (class_of refusal) }
 {
     number(refusal::class_of(refusal))

@@ -8,13 +8,7 @@ use book::{Before, Times};
 use plan::Placed;
 use schedule::JobIndex;
 
-#[unsafe(no_mangle)]
-pub extern "C" fn firmware_plan(
-    times: &Times,
-    before: &Before,
-    out: &mut [u8],
-    answer: &mut usize,
-) -> u8
+pub fn firmware_plan(times: &Times, before: &Before, out: &mut [u8], answer: &mut usize) -> u8
     requires { Made (book_in times.now before.now) }
     ensures { Plans (book_in times.now before.now) out.old out.new result answer.new }
 {
@@ -23,8 +17,7 @@ pub extern "C" fn firmware_plan(
     refusal::number(told)
 }
 
-#[unsafe(no_mangle)]
-pub extern "C" fn firmware_place(
+pub fn firmware_place(
     times: &Times,
     before: &Before,
     job: u16,

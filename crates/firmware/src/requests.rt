@@ -7,16 +7,14 @@ use book::{Before, Times};
 use planner::Request;
 use schedule::JobIndex;
 
-#[unsafe(no_mangle)]
-pub extern "C" fn firmware_open(times: &mut Times, before: &mut Before)
+pub fn firmware_open(times: &mut Times, before: &mut Before)
     ensures { Told (book_in times.new before.new) nothing_listed }
 {
     book::open(times, before);
 }
 
 // 1 where the memory holds a book made by requests, and 0 for anything else.
-#[unsafe(no_mangle)]
-pub extern "C" fn firmware_is_book(times: &Times, before: &Before) -> u8
+pub fn firmware_is_book(times: &Times, before: &Before) -> u8
     ensures { TellsBook (book_in times.now before.now) result }
 {
     if planner::is_book(times, before) {
@@ -25,8 +23,7 @@ pub extern "C" fn firmware_is_book(times: &Times, before: &Before) -> u8
     0
 }
 
-#[unsafe(no_mangle)]
-pub extern "C" fn firmware_add_job(
+pub fn firmware_add_job(
     times: &mut Times,
     before: &mut Before,
     start: u16,
@@ -39,8 +36,7 @@ pub extern "C" fn firmware_add_job(
     ask(times, before, Request::Job(start, deadline), answer)
 }
 
-#[unsafe(no_mangle)]
-pub extern "C" fn firmware_add_order(
+pub fn firmware_add_order(
     times: &mut Times,
     before: &mut Before,
     first: u16,
@@ -58,8 +54,7 @@ pub extern "C" fn firmware_add_order(
     )
 }
 
-#[unsafe(no_mangle)]
-pub extern "C" fn firmware_draw_in(
+pub fn firmware_draw_in(
     times: &mut Times,
     before: &mut Before,
     job: u16,

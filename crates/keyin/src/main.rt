@@ -27,7 +27,12 @@ fn main(rt: HostRuntime) {
 
 fn tell(rt: &HostRuntime, text: &[u8], mistake: Mistake) -> io::Result<()> {
     let size = mistake.size;
-    eprint!(rt; "line {}, entry {}: {}", mistake.line, mistake.entry, name(mistake.slip))?;
+    eprint!(rt;
+        "line {}, entry {}: {}",
+        mistake.line,
+        mistake.entry,
+        name(mistake.slip)
+    )?;
     if size > 0 {
         word(rt, text, mistake.start, size)?;
     }
