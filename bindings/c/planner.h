@@ -1,6 +1,6 @@
 /* The buoy planner: jobs of one slot for two equal cores, with starts, deadlines and orders. For C99 and C++11 on.
  *
- * Link libfirmware.a, which `rt staticlib firmware` writes to target/staticlib/, for x86-64 Linux. Nothing here
+ * Link libfirmware.a, which `tools/build archive` writes to target/staticlib/, for x86-64 Linux. Nothing here
  * allocates, waits or keeps anything: all memory is lent by the caller for the time of the call.
  *
  * A book is opened by planner_open and changed by the functions here alone; its fields are there to be read.

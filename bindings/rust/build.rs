@@ -1,4 +1,4 @@
-//! Links libfirmware.a, which `rt staticlib firmware` writes; PLANNER_LIB names another folder that has it.
+//! Links libfirmware.a, which `tools/build archive` writes; PLANNER_LIB names another folder that has it.
 use std::{env, path::Path};
 
 fn main() {
@@ -7,7 +7,7 @@ fn main() {
     let made = Path::new(&here).join("../../target/staticlib");
     let folder = env::var("PLANNER_LIB").unwrap_or(made.display().to_string());
     let library = Path::new(&folder).join("libfirmware.a");
-    assert!(library.exists(), "no {}: run `rt staticlib firmware` first", library.display());
+    assert!(library.exists(), "no {}: run `tools/build archive` first", library.display());
     println!("cargo:rustc-link-search=native={folder}");
     println!("cargo:rustc-link-lib=static=firmware");
     println!("cargo:rerun-if-changed={}", library.display());
