@@ -9,4 +9,4 @@ returns-then-filled-eq1 c = rw c.with_first.ensures (simp (eq-eqb _ _ c.if-fille
 
 pub returns : goal.returns
 unfolding grown_by
-returns c = rw c.with_Second.ensures (simp (ne_eqb _ _ c.if-filled-eq1.false))
+returns c = rw c.with_second.ensures (simp (ne_eqb _ _ c.if-filled-eq1.false))
