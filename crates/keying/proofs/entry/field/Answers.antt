@@ -1,6 +1,5 @@
 use borrow.Author.Tests.{le-leb, lt-leb}
 use Rattle.keying.specs.Inner.Machine.{numbered}
-use borrow.Author.Rules.{rules}
 use Rattle.keying.proofs.entry.field.Goals as goal
 
 pub returns-then-number-gt65536 : goal.returns-then-number-gt65536

@@ -2,7 +2,6 @@ use mathlib.Core.Path.{ap, ◌∙◌}
 use Rattle.records.specs.Find.{record_named}
 use Rattle.keying.specs.Text.{or_else}
 use Rattle.keying.specs.Inner.Machine.{no_mark, first_by}
-use borrow.Author.Rules.{rules}
 use Rattle.keying.proofs.entry.first.Goals as goal
 
 pub returns-in-Record : goal.returns-in-Record

@@ -1,6 +1,5 @@
 use borrow.Author.Tests.{eq-eqb, ne_eqb}
 use Rattle.keying.specs.Text.{grown_by}
-use borrow.Author.Rules.{rules}
 use Rattle.keying.proofs.entry.grown.Goals as goal
 
 pub returns-then-filled-eq1 : goal.returns-then-filled-eq1

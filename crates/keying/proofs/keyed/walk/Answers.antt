@@ -40,21 +40,20 @@ pub loop-i-preserved : goal.loop-i-preserved
 loop-i-preserved c =
     let inv = c.loop-i.invariant in
     elim c.match-take.branch [
-      in-On w ↦
-        let e = w.in-On.ensures ∙ ap (reader_turn c.loop-i.reader) c.byte_at.ensures in
-        let means = went_means _ _ _ _ inv.2 (omega arith) _ (sym e) in
-        (omega arith, inv.1, rw w.reader-is means, w.at-is ∙ inv.3, rw w.at-is inv.4, w.out-is ∙ inv.5)
-    | in-Entry+else-length_of-at w ↦
-        let e = w.in-Entry.ensures ∙ ap (reader_turn c.loop-i.reader) c.byte_at.ensures in
-        let means = went_means _ _ _ _ inv.2 (omega arith) _ (sym e) in
-        (
-          omega arith,
-          inv.1 ++ bytes_of w.in-Entry.told,
-          rw w.reader-is (means.0 (omega (arith, w.length_of.ensures, w.if-length_of-at.false))),
-          rw w.at-is (simp length-append (omega (arith, inv.3, w.length_of-at.ensures, bytes_length w.in-Entry.told))),
-          rw w.at-is (omega (arith, w.length_of.ensures, w.if-length_of-at.false, w.length_of-at.ensures)),
-          stored_more c.args.writing inv.1 (bytes_of w.in-Entry.told) c.args.out.now c.loop-i.out c.match-take.out c.loop-i.at inv.3 inv.5 (w.out-is ∙ w.put.ensures),
-        )
+      | in-On w ↦
+          let e = w.in-On.ensures ∙ ap (reader_turn c.loop-i.reader) c.byte_at.ensures in
+          let means = went_means _ _ _ _ inv.2 (omega arith) _ (sym e) in
+          (omega arith, inv.1, rw w.reader-is means, w.at-is ∙ inv.3, rw w.at-is inv.4, w.out-is ∙ inv.5)
+      | in-Entry+else-length_of-at w ↦
+          let e = w.in-Entry.ensures ∙ ap (reader_turn c.loop-i.reader) c.byte_at.ensures in
+          let means = went_means _ _ _ _ inv.2 (omega arith) _ (sym e) in (
+            omega arith,
+            inv.1 ++ bytes_of w.in-Entry.told,
+            rw w.reader-is (means.0 (omega (arith, w.length_of.ensures, w.if-length_of-at.false))),
+            rw w.at-is (simp length-append (omega (arith, inv.3, w.length_of-at.ensures, bytes_length w.in-Entry.told))),
+            rw w.at-is (omega (arith, w.length_of.ensures, w.if-length_of-at.false, w.length_of-at.ensures)),
+            stored_more c.args.writing inv.1 (bytes_of w.in-Entry.told) c.args.out.now c.loop-i.out c.match-take.out c.loop-i.at inv.3 inv.5 (w.out-is ∙ w.put.ensures),
+          )
     ]
 
 pub returns : goal.returns

@@ -9,8 +9,8 @@ pub loop-told-preserved : goal.loop-told-preserved
 loop-told-preserved c =
     passed_more c.args.file.now (λ i. omega (arith, c.type_inv.file i)) c.args.out.now (omega arith) _ _ _ _ _ _ _ _ c.loop-told.invariant c.in-Record.ensures c.length_of-at.ensures
     (elim c.if-writing.branch [
-      then-writing w ↦ inl (w.if-writing.true, rw (w.out-is, w.to-is) w.line-to.ensures)
-    | else-writing w ↦ inr (w.if-writing.false, w.out-is, w.to-is)
+      | then-writing w ↦ inl (w.if-writing.true, rw (w.out-is, w.to-is) w.line-to.ensures)
+      | else-writing w ↦ inr (w.if-writing.false, w.out-is, w.to-is)
     ])
 
 pub returns-in-End : goal.returns-in-End

@@ -1,6 +1,5 @@
 use mathlib.Core.Path.{sym, ◌∙◌}
 use Rattle.keying.specs.Inner.Machine.{reader_turn}
-use borrow.Author.Rules.{rules}
 use Rattle.keying.proofs.reader.take.Goals as goal
 
 pub returns-then-is_inner : goal.returns-then-is_inner
