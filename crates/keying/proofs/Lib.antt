@@ -1,7 +1,5 @@
 -- The laws; the proof of a function stands in the folder of its name.
 
--- within a list the default says nothing
-pub mod Lists
 -- a byte order mark
 pub mod Begin
 -- what the reader in the code shows of a page

@@ -1,6 +1,5 @@
 use native.Mathlib.Omega.{arith}
 use Rattle.records.proofs.Naming.{named_at}
-use borrow.Author.Rules.{rules}
 use Rattle.records.proofs.marked_at.Goals as goal
 
 pub returns : goal.returns

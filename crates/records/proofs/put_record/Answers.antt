@@ -5,7 +5,6 @@ use Prim.Native.Nat.{ℕ, ◌+◌}
 use lib.Seq.{sets}
 use Rattle.records.specs.Record.{word}
 use Rattle.records.proofs.Stored.{sets_append, sets_comm}
-use borrow.Author.Rules.{rules}
 use Rattle.records.proofs.put_record.Goals as goal
 
 pub returns : goal.returns

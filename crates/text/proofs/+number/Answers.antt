@@ -1,4 +1,4 @@
-use mathlib.Core.Path.{◌∙◌}
+use native.Mathlib.Omega.{arith}
 use Rattle.text.specs.Put.{Puts}
 use Rattle.text.proofs.Putting.{puts_none, puts_then}
 use Rattle.text.proofs.Decimal.{front, front_small, front_large, decimal_last}
@@ -10,9 +10,9 @@ pub returns : goal.returns
 returns t c =
     let a = c.args in
     let leading : Puts (front a.n) a.at a.out.now c.if-n-gt9.out c.if-n-gt9.last =
-        elim c.if-n-gt9.branch [
-          then-n-gt9 w ↦ rw (w.out-is, w.last-is, front_large a.n w.if-n-gt9.true) w.number-last.ensures
-        | else-n-gt9 w ↦ rw (w.out-is, w.last-is, front_small a.n w.if-n-gt9.false) (puts_none _ _)
-        ]
+    elim c.if-n-gt9.branch [
+      | then-n-gt9 w ↦ rw (w.out-is, w.last-is, front_large a.n (omega arith)) w.number-last.ensures
+      | else-n-gt9 w ↦ rw (w.out-is, w.last-is, front_small a.n (omega arith)) (puts_none _ _)
+    ]
     in
     rw (decimal_last a.n) (puts_then leading c.put.ensures)

@@ -1,14 +1,9 @@
 -- `text::fill` meets its contract. The invariant: what the bytes passed stand for is put.
 use mathlib.Core.Path.{◌≡◌}
 use Prim.Native.Nat.{◌-◌, ◌≤◌}
-use native.Mathlib.Omega.{arith}
-use borrow.Author.Rules.{rules}
 use lib.ListN.{length, take}
-use lib.Seq.{take_all}
 use Rattle.text.specs.Fill.{filled}
 use Rattle.text.specs.Put.{Puts}
-use Rattle.text.proofs.Putting.{puts_none, puts_then, puts_length}
-use Rattle.text.proofs.Each.{filled_next}
 use Rattle.text.proofs.fill.Given as goal
 
 abbrev pub invariant-loop-i : goal.invariant-loop-i

@@ -1,5 +1,4 @@
 use borrow.Author.Tests.{lt-ltb, le-ltb}
-use borrow.Author.Rules.{rules}
 use Rattle.text.proofs.piece.Goals as goal
 
 pub returns-then-place-values : goal.returns-then-place-values

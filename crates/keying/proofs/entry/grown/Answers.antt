@@ -1,6 +1,5 @@
 use borrow.Author.Tests.{eq-eqb, ne_eqb}
 use Rattle.keying.specs.Text.{grown_by}
-use borrow.Author.Rules.{rules}
 use Rattle.keying.proofs.entry.grown.Goals as goal
 
 pub returns-then-filled-eq1 : goal.returns-then-filled-eq1
@@ -9,4 +8,4 @@ returns-then-filled-eq1 c = rw c.with_first.ensures (simp (eq-eqb _ _ c.if-fille
 
 pub returns : goal.returns
 unfolding grown_by
-returns c = rw c.with_Second.ensures (simp (ne_eqb _ _ c.if-filled-eq1.false))
+returns c = rw c.with_second.ensures (simp (ne_eqb _ _ c.if-filled-eq1.false))

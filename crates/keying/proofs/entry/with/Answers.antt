@@ -1,6 +1,5 @@
 use borrow.Author.Tests.{eq-eqb, ne_eqb}
 use Rattle.keying.specs.Inner.Machine.{entry_with}
-use borrow.Author.Rules.{rules}
 use Rattle.keying.proofs.entry.with.Goals as goal
 
 pub returns-then-size-eq0 : goal.returns-then-size-eq0

@@ -1,7 +1,6 @@
 use mathlib.Core.Path.{sym, ◌∙◌}
 use native.Mathlib.Omega.{arith}
 use Rattle.keying.proofs.Begin.{begin_first, begin_second, begin_third, begin_past}
-use borrow.Author.Rules.{rules}
 use Rattle.keying.proofs.keyed.begin.Goals as goal
 
 pub returns-then-byte_at-ne239 : goal.returns-then-byte_at-ne239

@@ -1,17 +1,11 @@
 -- `keying::keyed::walk` meets its contract: what each byte means.
 use mathlib.Core.Bool.{cond}
-use mathlib.Core.List.{List, [], ◌++◌}
-use mathlib.Core.Logic.{⊎_elim}
-use mathlib.Core.Path.{◌≡◌, refl, sym, subst, ◌∙◌}
+use mathlib.Core.List.{List}
+use mathlib.Core.Path.{◌≡◌}
 use Prim.Native.Nat.{ℕ, ◌+◌, ◌-◌, ◌≤◌}
-use native.Mathlib.Omega.{arith}
-use lib.ListN.{length, length-append}
+use lib.ListN.{length}
 use lib.Seq.{sets}
-use Rattle.records.specs.Record.{bytes_of}
-use Rattle.records.proofs.Standing.{bytes_length}
-use Rattle.keying.specs.declared.reader.Went.{Went}
-use borrow.Author.Rules.{rules}
-use Rattle.keying.proofs.Walk.{Reached, reached_start, reached_counts, Means, went_means, at_end, walks_by, stored_none, stored_length, stored_more}
+use Rattle.keying.proofs.Walk.{Reached}
 use Rattle.keying.proofs.keyed.walk.Given as goal
 
 abbrev pub invariant-loop-i : goal.invariant-loop-i

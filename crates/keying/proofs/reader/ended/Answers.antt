@@ -1,6 +1,5 @@
 use borrow.Author.Tests.{eq-eqb, ne_eqb}
 use Rattle.keying.specs.Inner.Machine.{reader_ended}
-use borrow.Author.Rules.{rules}
 use Rattle.keying.proofs.reader.ended.Goals as goal
 
 pub returns-then-byte-eq-NEWLINE : goal.returns-then-byte-eq-NEWLINE

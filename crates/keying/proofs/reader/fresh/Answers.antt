@@ -1,4 +1,3 @@
-use borrow.Author.Rules.{rules}
 use Rattle.keying.specs.Inner.Machine.{blank_reader}
 use Rattle.keying.proofs.reader.fresh.Goals as goal
 

@@ -1,5 +1,4 @@
 use Rattle.keying.specs.Inner.Machine.{reader_grown}
-use borrow.Author.Rules.{rules}
 use Rattle.keying.proofs.reader.grown.Goals as goal
 
 pub returns-then-remark : goal.returns-then-remark

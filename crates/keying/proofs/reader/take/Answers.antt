@@ -1,6 +1,5 @@
 use mathlib.Core.Path.{sym, ◌∙◌}
 use Rattle.keying.specs.Inner.Machine.{reader_turn}
-use borrow.Author.Rules.{rules}
 use Rattle.keying.proofs.reader.take.Goals as goal
 
 pub returns-then-is_inner : goal.returns-then-is_inner
@@ -10,9 +9,9 @@ returns-then-is_inner c = rw c.grown.ensures (simp (sym c.is_inner.ensures ∙ c
 pub returns-in-Wrong : goal.returns-in-Wrong
 unfolding reader_turn
 returns-in-Wrong c =
-    simp (sym c.is_inner.ensures ∙ c.if-is_inner.false, sym c.with.ensures ∙ c.slip-1.given.1)
+    simp (sym c.is_inner.ensures ∙ c.if-is_inner.false, sym c.in-Wrong.ensures)
 
 pub returns-in-Grown : goal.returns-in-Grown
 unfolding reader_turn
 returns-in-Grown c =
-    rw c.ended.ensures (simp (sym c.is_inner.ensures ∙ c.if-is_inner.false, sym c.with.ensures ∙ c.more-1.given.1))
+    rw c.ended.ensures (simp (sym c.is_inner.ensures ∙ c.if-is_inner.false, sym c.in-Grown.ensures))

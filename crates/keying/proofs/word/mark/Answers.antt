@@ -1,4 +1,3 @@
-use borrow.Author.Rules.{rules}
 use borrow.Author.Tests.{eq-eqb, ne_eqb}
 use Rattle.keying.specs.Inner.Machine.{word_mark}
 use Rattle.keying.proofs.word.mark.Goals as goal

@@ -1,4 +1,3 @@
-use borrow.Author.Rules.{rules}
 use borrow.Author.Tests.{lt-leb, le-leb}
 use Rattle.keying.specs.Text.{digit}
 use Rattle.keying.specs.Inner.Machine.{number_with}

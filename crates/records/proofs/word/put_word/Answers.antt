@@ -1,7 +1,6 @@
 use native.Mathlib.Numerals.{add-one}
 use native.Mathlib.Omega.{arith}
 use lib.ListN.{length-set}
-use borrow.Author.Rules.{rules}
 use Rattle.records.proofs.word.put_word.Goals as goal
 
 pub bounds-out-at-2 : goal.bounds-out-at-2
