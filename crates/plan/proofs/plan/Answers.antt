@@ -23,13 +23,13 @@ returns-then-out-needed c =
 
 pub write-requires : goal.write-requires
 write-requires c =
-    plan_writable ((book_in c.args.times.now c.args.before.now)) c.requires c.lay_out-laid.result c.lay_out-laid.ensures _ c.clear.last.0
-    c.size_of.ensures (omega (arith, c.clear.kept.0, c.if-out-needed.left))
+    plan_writable ((book_in c.args.times.now c.args.before.now)) c.requires c.lay_out-laid.result c.lay_out-laid.ensures _ c.clear.new.out
+    c.size_of.ensures (omega (arith, c.clear.auto, c.if-out-needed.false))
 
 pub returns : goal.returns
 returns c =
     let r = c.lay_out-laid.result in
-    let fits = c.if-out-needed.left in
+    let fits = c.if-out-needed.false in
     let size = c.size_of in
     let new = c.write.ensures ∙ ap (seated r.slot r.on_core_1 size.result) c.clear.ensures
     ∙ plan_written ((book_in c.args.times.now c.args.before.now)) c.requires r c.lay_out-laid.ensures size.result r.finish c.args.out.now size.ensures c.lay_out-laid.ensures.ends fits in

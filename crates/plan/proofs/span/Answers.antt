@@ -1,10 +1,10 @@
-use mathlib.Core.Logic.{⊎_elim}
 use Prim.Native.Nat.{◌*◌, ◌≤◌, ◌<◌}
 use native.Mathlib.Omega.{arith}
 use lib.ListN.{length}
 use borrow.Author.Tests.{le-leb, lt-leb}
 use borrow.Author.Rules.{rules}
 use Rattle.plan.proofs.span.Goals as goal
+use Rattle.plan.proofs.span.Goals.{then-a-b+else-b-plan, else-a-b}
 
 pub returns-then-b-plan : goal.returns-then-b-plan
 returns-then-b-plan c =
@@ -15,9 +15,9 @@ returns-then-b-plan c =
 pub returns : goal.returns
 returns c =
     let a = c.args in
-    ⊎_elim
-    (λ w.
-    let over : length a.plan.now < 2 * a.to.0 = omega (arith, w.1.left) in
-    simp (le-leb _ _ w.0.taken, lt-leb _ _ over))
-    (λ w. simp (lt-leb _ _ w.left))
-    c.if-a-b.branch
+    elim c.if-a-b.branch [
+      then-a-b+else-b-plan w ↦
+        let over : length a.plan.now < 2 * a.to.0 = omega arith in
+        simp (le-leb _ _ w.if-a-b.true, lt-leb _ _ over)
+    | else-a-b w ↦ simp (lt-leb _ _ w.if-a-b.false)
+    ]

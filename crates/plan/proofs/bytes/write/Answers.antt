@@ -14,7 +14,7 @@ loop-i-init c = (search rules, refl, refl)
 pub seat-requires : goal.seat-requires
 seat-requires c =
     let a = c.args in (
-      omega (arith, c.requires.room c.loop-i.i (omega arith), core_below a.on-core-1 c.loop-i.i, c.core_of.ensures, c.time_at.ensures.0),
+      omega (arith, c.requires.room c.loop-i.i (omega arith), core_below a.on_core_1 c.loop-i.i, c.core_of.ensures, c.time_at.ensures.0),
       omega arith,
     )
 
@@ -24,7 +24,7 @@ loop-i-preserved c =
     (
       search rules,
       ap length c.seat.ensures ∙ simp length-set c.loop-i.invariant.1,
-      c.seat.ensures ∙ rw (c.core_of.ensures, c.time_at.ensures.0, c.loop-i.invariant.2) (seated_more a.slot.now a.on-core-1 c.loop-i.i a.out.now),
+      c.seat.ensures ∙ rw (c.core_of.ensures, c.time_at.ensures.0, c.loop-i.invariant.2) (seated_more a.slot.now a.on_core_1 c.loop-i.i a.out.now),
     )
 
 pub shape_of-out : goal.shape_of-out
