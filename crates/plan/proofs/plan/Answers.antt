@@ -2,35 +2,34 @@ use mathlib.Core.List.{List}
 use mathlib.Core.Path.{refl, ap, ◌∙◌}
 use Prim.Native.Nat.{ℕ, ◌*◌}
 use native.Mathlib.Omega.{arith}
-use borrow.Author.Rules.{rules}
 use Rattle.refusal.specs.Table.{refused, passed}
-use Rattle.book.specs.Told.{Book, book_in, cores}
+use Rattle.book.specs.Told.{book_in, cores}
 use Rattle.plan.specs.Inner.Bytes.{seated}
 use Rattle.plan.proofs.BookPlan.{finish_fits}
 use Rattle.plan.proofs.WrittenBytes.{plan_writable, plan_written}
 use Rattle.plan.proofs.plan.Goals as goal
 
-pub lay_out-laid-requires : goal.lay_out-laid-requires
-lay_out-laid-requires c = c.requires
-
 pub overflow_mul-needed : goal.overflow_mul-needed
-overflow_mul-needed c = omega (arith, finish_fits ((book_in c.args.times.now c.args.before.now)) c.requires, c.lay_out-laid.ensures.ends)
+overflow_mul-needed c = omega (arith, finish_fits (book_in c.args.times.now c.args.before.now) c.requires, c.lay_out-laid.ensures.ends)
 
 pub returns-then-out-needed : goal.returns-then-out-needed
 returns-then-out-needed c =
+    let ends = c.lay_out-laid.ensures.ends in
     let old : List ℕ = c.args.out.now in
-    (omega arith, refused 8 _ (omega (arith, c.if-out-needed.true, c.lay_out-laid.ensures.ends), refl, refl) (ap (λ n. (8, cores * n, old)) c.lay_out-laid.ensures.ends))
+    (omega arith, refused 8 _ (omega (arith, c.if-out-needed.true, ends), refl, refl) (ap (λ n. (8, cores * n, old)) ends))
 
 pub write-requires : goal.write-requires
 write-requires c =
-    plan_writable ((book_in c.args.times.now c.args.before.now)) c.requires c.lay_out-laid.result c.lay_out-laid.ensures _ c.clear.last.0
-    c.size_of.ensures (omega (arith, c.clear.kept.0, c.if-out-needed.left))
+    let laid = c.lay_out-laid in
+    plan_writable (book_in c.args.times.now c.args.before.now) c.requires laid.result laid.ensures _ c.clear.new.out
+    c.size_of.ensures (omega (arith, c.clear.auto, c.if-out-needed.false))
 
 pub returns : goal.returns
 returns c =
     let r = c.lay_out-laid.result in
-    let fits = c.if-out-needed.left in
+    let ends = c.lay_out-laid.ensures.ends in
+    let fits = c.if-out-needed.false in
     let size = c.size_of in
     let new = c.write.ensures ∙ ap (seated r.slot r.on_core_1 size.result) c.clear.ensures
-    ∙ plan_written ((book_in c.args.times.now c.args.before.now)) c.requires r c.lay_out-laid.ensures size.result r.finish c.args.out.now size.ensures c.lay_out-laid.ensures.ends fits in
-    passed (λ lt. omega (arith, fits, c.lay_out-laid.ensures.ends)) (λ i. (0, c.lay_out-laid.ensures.ends i, new i))
+    ∙ plan_written (book_in c.args.times.now c.args.before.now) c.requires r c.lay_out-laid.ensures size.result r.finish c.args.out.now size.ensures ends fits in
+    passed (λ lt. omega (arith, fits, ends)) (λ i. (0, ends i, new i))

@@ -1,11 +1,8 @@
 -- `plan::bytes::clear` meets its contract. The invariant: the bytes passed are idle cores, the others as they were.
 use mathlib.Core.List.{◌++◌}
-use mathlib.Core.Path.{◌≡◌, refl}
+use mathlib.Core.Path.{◌≡◌}
 use Prim.Native.Nat.{◌-◌, ◌≤◌}
-use native.Mathlib.Omega.{arith}
-use borrow.Author.Fill.{fill_none, fill_more}
-use borrow.Author.Rules.{rules}
-use lib.ListN.{length, length-set, drop, replicate}
+use lib.ListN.{length, drop, replicate}
 use Rattle.plan.proofs.bytes.clear.Given as goal
 
 abbrev pub invariant-loop-i : goal.invariant-loop-i

@@ -1,10 +1,7 @@
 -- `plan::bytes::write` meets its contract. The invariant: the jobs passed are at their seats.
-use mathlib.Core.Path.{◌≡◌, refl, ap, ◌∙◌}
+use mathlib.Core.Path.{◌≡◌}
 use Prim.Native.Nat.{◌-◌, ◌≤◌}
-use native.Mathlib.Omega.{arith}
-use borrow.Author.Rules.{rules}
-use lib.ListN.{length, length-set}
-use Rattle.plan.proofs.WrittenBytes.{core_below, seated_more}
+use lib.ListN.{length}
 use Rattle.plan.specs.Inner.Bytes.{seated}
 use Rattle.plan.proofs.bytes.write.Given as goal
 

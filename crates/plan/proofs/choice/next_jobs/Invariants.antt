@@ -1,12 +1,7 @@
 -- `plan::choice::next_jobs` meets its contract. The invariant: `best` and `next` are the choice among the jobs passed, `least` and `later` their latest times, `rest` the jobs left beyond.
-use mathlib.Core.Logic.{⊎_elim}
-use mathlib.Core.Path.{sym, ◌∙◌}
-use native.Mathlib.Omega.{arith}
-use borrow.Author.Rules.{rules}
 use Rattle.schedule.specs.Count.{count}
 use Rattle.sets.specs.Sets.{has}
-use Rattle.sets.proofs.Bits.{rest_less}
-use Rattle.plan.proofs.TwoBest.{Walked, walked_none, walked_all, walked_on}
+use Rattle.plan.proofs.TwoBest.{Walked}
 use Rattle.plan.proofs.choice.next_jobs.Given as goal
 
 abbrev pub invariant-loop-rest : goal.invariant-loop-rest

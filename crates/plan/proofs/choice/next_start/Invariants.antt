@@ -1,12 +1,7 @@
 -- `plan::choice::next_start` meets its contract. The invariant: no start passed is between t and `next`.
-use mathlib.Core.Logic.{⊎_elim}
-use mathlib.Core.Path.{◌≡◌}
 use Prim.Native.Nat.{◌-◌, ◌≤◌}
-use native.Mathlib.Omega.{arith}
-use borrow.Author.Rules.{rules}
 use Rattle.book.specs.Told.{row_in}
 use Rattle.plan.specs.Inner.Choice.{Wakes}
-use Rattle.plan.proofs.NextStart.{wakes_keep, wakes_take}
 use Rattle.plan.proofs.choice.next_start.Given as goal
 
 abbrev pub invariant-loop-i : goal.invariant-loop-i

@@ -1,15 +1,10 @@
 -- `plan::layout::lay_out` meets its contract. The invariant: the layout of the slots so far, of which the last was not in vain.
-use mathlib.Core.Logic.{◌⊎◌, inl, inr}
-use mathlib.Core.Path.{◌≡◌, refl, subst}
+use mathlib.Core.Logic.{◌⊎◌}
+use mathlib.Core.Path.{◌≡◌}
 use Prim.Native.Nat.{◌-◌, ◌≤◌}
-use native.Mathlib.Omega.{arith}
-use borrow.Author.Rules.{rules}
-use Rattle.sets.specs.Sets.{Below}
-use Rattle.book.specs.Told.{Book, book_in, jobs_of, latest_of, cores}
+use Rattle.book.specs.Told.{book_in, jobs_of, latest_of, cores}
 use Rattle.plan.specs.Plan.{horizon}
 use Rattle.plan.specs.Inner.Layout.{Laid, Late}
-use Rattle.plan.proofs.BookPlan.{all_placed}
-use Rattle.plan.proofs.AllSlots.{laid_none, slot_left, lays, serving_parts, parts_served}
 use Rattle.plan.proofs.layout.lay_out.Given as goal
 
 abbrev pub invariant-loop-stage : goal.invariant-loop-stage
