@@ -10,6 +10,7 @@ use Rattle.planner.specs.Inner.Tighten.Early.{Unblocked}
 use Rattle.sets.proofs.Bits.{apart_is, apart_has, has_some, rest_less, walk_split, walk_sub}
 use Rattle.planner.proofs.Pending.{rows_at, rows_keep}
 use Rattle.planner.proofs.tighten.early.unblocked.Goals as goal
+use Rattle.planner.proofs.tighten.early.unblocked.Goals.{then-row-todo-eq0+else-joined-todo-eq0, else-row-todo-eq0}
 
 pub bounds-before-i : goal.bounds-before-i
 bounds-before-i c =
@@ -36,4 +37,19 @@ loop-pending-smaller c =
     rest_less _ _ _ (has_some _ q.0 q.1) c.first-job.ensures c.rest-rest.ensures
 
 pub loop-pending-preserved : goal.loop-pending-preserved
-loop-pending-preserved c = ?
+loop-pending-preserved c =
+    let a = c.args in
+    let rows = joined_rows a.before.now a.pending in
+    let f = c.first-job in
+    let q = c.loop-pending.invariant in
+    let g = q.1 in
+    let m : (f.result.0 < 64) × T (has c.loop-pending.rest f.result.0) = f.ensures.met (has_some _ g.0 g.1) in
+    let left = c.rest-rest.ensures f.result.0 f.ensures in
+    let x : Unblocked f.result.0 (get_or rows f.result.0 0) a.todo → ⊥ = λ y.
+    elim c.if-row-todo-eq0.branch [
+      then-row-todo-eq0+else-joined-todo-eq0 w ↦ w.if-joined-todo-eq0.false (apart_is w.joined.result a.todo c.ranges.todo.fits (λ j t. y.ready j (rw (w.joined.ensures ∙ sym (rows_at a.before.now a.pending f.result.0 m.0)) at t)))
+    | else-row-todo-eq0 w ↦ w.if-row-todo-eq0.false (apart_is (get_or a.before.now f.result.0 0) a.todo c.ranges.todo.fits (λ j t. y.ready j (rows_keep a.before.now a.pending f.result.0 j m.0 t)))
+    ] in (
+      (λ j t. q.0 j (walk_sub c.loop-pending.rest c.rest-rest.result f.result.0 left j t)),
+      ⊎_elim (λ e. absurd (x (subst (λ (n : ℕ). Unblocked n (get_or rows n 0) a.todo) e g.2))) (λ t. (g.0, t, g.2)) (walk_split c.loop-pending.rest c.rest-rest.result f.result.0 left g.0 g.1),
+    )
