@@ -1,0 +1,42 @@
+use mathlib.Core.List.{List}
+use mathlib.Core.Path.{sym, subst}
+use Prim.Native.Nat.{ℕ}
+use native.Mathlib.Omega.{arith}
+use lib.Dec.{T}
+use Rattle.schedule.proofs.Rows.{sum_less}
+use Rattle.book.specs.Told.{cores, row_in}
+use Rattle.planner.specs.declared.tighten.Moved.TheVariants.{Those}
+use Rattle.planner.specs.Inner.Tighten.{Moves, Swept}
+use Rattle.planner.proofs.TightenSink.{sunk_join}
+use Rattle.planner.proofs.tighten.settled.Goals as goal
+
+pub returns-then-moved-eq0 : goal.returns-then-moved-eq0
+returns-then-moved-eq0 c =
+    let row = c.loop-moved.row in (
+      c.pass.ensures.0,
+      (λ J early e k.
+          let m : Moves cores J early row c.pass.new.row (Swept cores J early (row_in row)) (Those c.in-Those.moved) = c.in-Those.ensures.1 J early e k in
+          let still = m.1 c.if-moved-eq0.true in
+          record {
+            sunk = λ b. sunk_join (c.loop-moved.invariant.1 J early e k) m.0;
+            swept = λ b. subst (λ (x : List ℕ). Swept cores J early (row_in x)) (sym still.0) still.1;
+            none = λ b. absurd (subst T b tt);
+          }),
+    )
+
+pub loop-moved-smaller : goal.loop-moved-smaller
+loop-moved-smaller c =
+    let row = c.loop-moved.row in
+    let j = c.requires.known in
+    let m : Moves cores j.0 j.1 row c.pass.new.row (Swept cores j.0 j.1 (row_in row)) (Those c.in-Those.moved) = c.in-Those.ensures.1 j.0 j.1 j.2 j.3 in
+    let f = m.2 c.if-moved-eq0.false in
+    sum_less _ _ _ f.0 (omega (arith, f.1, j.2)) (λ i l. m.0.bound.beneath i (omega (arith, j.2))) f.2
+
+pub loop-moved-preserved : goal.loop-moved-preserved
+loop-moved-preserved c =
+    let row = c.loop-moved.row in (
+      c.pass.ensures.0,
+      (λ J early e k.
+          let m : Moves cores J early row c.pass.new.row (Swept cores J early (row_in row)) (Those c.in-Those.moved) = c.in-Those.ensures.1 J early e k in
+          sunk_join (c.loop-moved.invariant.1 J early e k) m.0),
+    )
