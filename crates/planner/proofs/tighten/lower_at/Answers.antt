@@ -1,8 +1,8 @@
-use mathlib.Core.Path.{◌≡◌, sym}
-use Prim.Native.Nat.{ℕ, ◌≤◌, ◌<◌}
+use mathlib.Core.Path.{sym}
+use Prim.Native.Nat.{◌<◌}
 use native.Mathlib.Omega.{arith}
 use lib.Dec.{T}
-use lib.ListN.{length, length-set, get_or}
+use lib.ListN.{length-set}
 use Rattle.book.specs.Told.{cores, row_in}
 use Rattle.sets.specs.Sets.{has}
 use Rattle.planner.specs.Inner.Tighten.Rule.{Ruled}

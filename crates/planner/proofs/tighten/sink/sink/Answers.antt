@@ -1,13 +1,10 @@
-use mathlib.Core.Path.{◌≡◌, refl, sym, subst}
-use Prim.Native.Nat.{ℕ, ◌-◌, ◌≤◌, ◌<◌}
+use mathlib.Core.Path.{refl, sym, subst}
+use Prim.Native.Nat.{◌-◌, ◌<◌}
 use native.Mathlib.Omega.{arith}
 use lib.Dec.{T}
-use lib.ListN.{length, length-set, get_or, set}
-use Rattle.schedule.specs.Jobs.{Jobs}
-use Rattle.schedule.specs.Times.{Raised}
+use lib.ListN.{length-set, get_or}
 use Rattle.book.specs.Told.{cores, row_in}
-use Rattle.planner.specs.Inner.Tighten.Tables.{Follows}
-use Rattle.planner.specs.Inner.Tighten.Sink.{Eased, Sunk}
+use Rattle.planner.specs.Inner.Tighten.Sink.{Eased}
 use Rattle.planner.proofs.TightenSink.{sunk_put, sunk_none, followed}
 use Rattle.planner.proofs.tighten.sink.sink.Goals as goal
 
