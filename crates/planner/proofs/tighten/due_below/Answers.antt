@@ -23,11 +23,11 @@ loop-rest-preserved c =
     let t = c.time_at-time.ensures.0 in
     let small = c.time_at-time.ensures.1 in
     elim c.if-time-limit.branch [
-      then-time-limit+then-d-time w ↦ rw (w.d-is, w.jobs-is) (gathered_more q _ _ left m.1 (omega (arith, t, small)) _ _ (omega (arith, t, w.if-time-limit.true)) (with_in _ _ _ m.0 w.with-jobs.ensures)
+      | then-time-limit+then-d-time w ↦ rw (w.d-is, w.jobs-is) (gathered_more q _ _ left m.1 (omega (arith, t, small)) _ _ (omega (arith, t, w.if-time-limit.true)) (with_in _ _ _ m.0 w.with-jobs.ensures)
           (omega (arith, w.if-d-time.true)) (omega (arith, t)) w.if-time-limit.true)
-    | then-time-limit+else-d-time w ↦ rw (w.d-is, w.jobs-is) (gathered_more q _ _ left m.1 (omega (arith, t, small)) _ _ (omega (arith, t, w.if-time-limit.true)) (with_in _ _ _ m.0 w.with-jobs.ensures)
+      | then-time-limit+else-d-time w ↦ rw (w.d-is, w.jobs-is) (gathered_more q _ _ left m.1 (omega (arith, t, small)) _ _ (omega (arith, t, w.if-time-limit.true)) (with_in _ _ _ m.0 w.with-jobs.ensures)
           (omega arith) (omega (arith, t, w.if-d-time.false)) (gathered_low q f.result.0 (omega (arith, t, w.if-time-limit.true))))
-    | else-time-limit w ↦ rw (w.d-is, w.jobs-is) (gathered_same q _ _ left m.1 (omega (arith, t, small)) (omega (arith, t, w.if-time-limit.false)))
+      | else-time-limit w ↦ rw (w.d-is, w.jobs-is) (gathered_same q _ _ left m.1 (omega (arith, t, small)) (omega (arith, t, w.if-time-limit.false)))
     ]
 
 pub returns : goal.returns

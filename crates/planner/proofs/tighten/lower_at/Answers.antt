@@ -48,8 +48,8 @@ loop-rest-preserved c =
           let l = (due_job J.size (row_in q.row) a.d a.due x.soon i due).0 in
           let ruled : Ruled cores J early (row_in q.row) i a.d c.lowered-time.result = c.lowered-time.ensures.1 J early (row_in q.row) (record { levels = k.levels; job = l; begins = (k.ranks i l).1; holds = sym h; soon = x.soon; follow = λ j. k.follow i j l }) k.earliest in
           elim c.if-time-held.branch [
-            then-time-held w ↦ rw w.moved-is (lowering_moved k.levels.few q.invariant.0 x _ due left ruled c.if-time-eq0.false _ (with_in _ _ _ m.0 w.with-moved.ensures) (omega (arith, h, w.if-time-held.true)))
-          | else-time-held w ↦ rw w.moved-is (lowering_kept k.levels.few q.invariant.0 x _ due left ruled c.if-time-eq0.false (omega (arith, h, w.if-time-held.false)))
+            | then-time-held w ↦ rw w.moved-is (lowering_moved k.levels.few q.invariant.0 x _ due left ruled c.if-time-eq0.false _ (with_in _ _ _ m.0 w.with-moved.ensures) (omega (arith, h, w.if-time-held.true)))
+            | else-time-held w ↦ rw w.moved-is (lowering_kept k.levels.few q.invariant.0 x _ due left ruled c.if-time-eq0.false (omega (arith, h, w.if-time-held.false)))
           ]),
     )
 

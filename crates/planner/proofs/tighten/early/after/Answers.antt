@@ -18,8 +18,8 @@ loop-rest-preserved c =
     let left = c.rest-rest.ensures f.result.0 f.ensures in
     let h = c.time_at-other.ensures.0 in
     elim c.if-time-other.branch [
-      then-time-other w ↦ rw (w.time-is, h) (reached_more a.start a.set a.early.now q.time q.rest q.invariant f.result.0 c.rest-rest.result left t (omega (arith, h, w.if-time-other.true)))
-    | else-time-other w ↦ rw w.time-is (reached_same a.start a.set a.early.now q.time q.rest q.invariant f.result.0 c.rest-rest.result left t (omega (arith, h, w.if-time-other.false)))
+      | then-time-other w ↦ rw (w.time-is, h) (reached_more a.start a.set a.early.now q.time q.rest q.invariant f.result.0 c.rest-rest.result left t (omega (arith, h, w.if-time-other.true)))
+      | else-time-other w ↦ rw w.time-is (reached_same a.start a.set a.early.now q.time q.rest q.invariant f.result.0 c.rest-rest.result left t (omega (arith, h, w.if-time-other.false)))
     ]
 
 pub returns : goal.returns

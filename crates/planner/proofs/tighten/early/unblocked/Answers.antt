@@ -47,8 +47,8 @@ loop-pending-preserved c =
     let left = c.rest-rest.ensures f.result.0 f.ensures in
     let x : Unblocked f.result.0 (get_or rows f.result.0 0) a.todo → ⊥ = λ y.
     elim c.if-row-todo-eq0.branch [
-      then-row-todo-eq0+else-joined-todo-eq0 w ↦ w.if-joined-todo-eq0.false (apart_is w.joined.result a.todo c.ranges.todo.fits (λ j t. y.ready j (rw (w.joined.ensures ∙ sym (rows_at a.before.now a.pending f.result.0 m.0)) at t)))
-    | else-row-todo-eq0 w ↦ w.if-row-todo-eq0.false (apart_is (get_or a.before.now f.result.0 0) a.todo c.ranges.todo.fits (λ j t. y.ready j (rows_keep a.before.now a.pending f.result.0 j m.0 t)))
+      | then-row-todo-eq0+else-joined-todo-eq0 w ↦ w.if-joined-todo-eq0.false (apart_is w.joined.result a.todo c.ranges.todo.fits (λ j t. y.ready j (rw (w.joined.ensures ∙ sym (rows_at a.before.now a.pending f.result.0 m.0)) at t)))
+      | else-row-todo-eq0 w ↦ w.if-row-todo-eq0.false (apart_is (get_or a.before.now f.result.0 0) a.todo c.ranges.todo.fits (λ j t. y.ready j (rows_keep a.before.now a.pending f.result.0 j m.0 t)))
     ] in (
       (λ j t. q.0 j (walk_sub c.loop-pending.rest c.rest-rest.result f.result.0 left j t)),
       ⊎_elim (λ e. absurd (x (subst (λ (n : ℕ). Unblocked n (get_or rows n 0) a.todo) e g.2))) (λ t. (g.0, t, g.2)) (walk_split c.loop-pending.rest c.rest-rest.result f.result.0 left g.0 g.1),

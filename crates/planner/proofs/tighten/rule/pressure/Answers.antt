@@ -40,8 +40,8 @@ loop-room-preserved c =
       omega (arith, (s.0 c.loop-room.k c.loop-room.invariant.0 (omega (arith, s.4, s.5))).0),
       (λ J early row x.
           elim c.if-most-room.branch [
-            then-most-room+else-most-room-2+else-most-least w ↦ rw w.most-is (passed_counted cores x s.2 s.3 s.4 s.5 (c.loop-room.invariant.1 J early row x) h _ w.pressing-most.ensures (omega (arith, room, w.if-most-room-2.false)))
-          | else-most-room w ↦ rw w.most-is (passed_kept cores x s.2 s.3 s.4 s.5 (c.loop-room.invariant.1 J early row x) h (omega (arith, room, w.if-most-room.false)))
+            | then-most-room+else-most-room-2+else-most-least w ↦ rw w.most-is (passed_counted cores x s.2 s.3 s.4 s.5 (c.loop-room.invariant.1 J early row x) h _ w.pressing-most.ensures (omega (arith, room, w.if-most-room-2.false)))
+            | else-most-room w ↦ rw w.most-is (passed_kept cores x s.2 s.3 s.4 s.5 (c.loop-room.invariant.1 J early row x) h (omega (arith, room, w.if-most-room.false)))
           ]),
     )
 

@@ -34,7 +34,7 @@ loop-rest-preserved c =
       (λ J early i l e f r.
           let j = f k.result.0 (c.loop-rest.invariant.0 k.result.0 t) in
           elim c.if-other-time.branch [
-            then-other-time+else-other-eq0 w ↦ rw w.time-is (eased_follow cores (omega arith) J early row l r k.result.0 j.0 j.1 c.loop-rest.time (c.loop-rest.invariant.1 J early i l e f r) w.if-other-time.true)
-          | else-other-time w ↦ rw w.time-is (c.loop-rest.invariant.1 J early i l e f r)
+            | then-other-time+else-other-eq0 w ↦ rw w.time-is (eased_follow cores (omega arith) J early row l r k.result.0 j.0 j.1 c.loop-rest.time (c.loop-rest.invariant.1 J early i l e f r) w.if-other-time.true)
+            | else-other-time w ↦ rw w.time-is (c.loop-rest.invariant.1 J early i l e f r)
           ]),
     )
