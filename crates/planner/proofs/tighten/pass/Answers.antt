@@ -55,11 +55,9 @@ loop-due-preserved c =
     let j = c.requires.known in
     let small : due.result.d < 65536 = omega (arith, due.ensures.some c.if-due-eq0.false, q.invariant.1) in
     let all : DueBelow q.limit a.size q.row due.result = due_all _ _ _ _ _ q.invariant.2 due.ensures in
-    let same : c.lower_at.new.row ≡ q.row =
     let b : DueBelow q.limit j.0.size q.row due.result = rw j.2 all in
     let m : Moves cores j.0 j.1 q.row c.lower_at.new.row (AtD cores j.0 j.1 (row_in q.row) due.result.d) (Those c.in-Those.moved) = c.in-Those.ensures.1 j.0 j.1 j.3 (due_by _ _ _ _ b c.if-due-eq0.false) in
-    (m.1 c.if-moved-ne0.false).0
-    in (
+    let same : c.lower_at.new.row ≡ q.row = (m.1 c.if-moved-ne0.false).0 in (
       c.lower_at.ensures.0,
       omega arith,
       subst (λ (x : List ℕ). Among a.size due.result.d x due.result.jobs) (sym same) (among_next _ _ _ _ all q.invariant.1 c.if-due-eq0.false),

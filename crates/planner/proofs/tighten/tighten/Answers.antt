@@ -22,9 +22,7 @@ returns-then-sink c =
     let rows = joined_rows a.before.now a.pending in
     let J = jobs_in a.size a.start.now rows in
     let early = row_in c.earliest.new.early in
-    let known : Known J early c.followers.new.rows c.levels.new.times c.levels.new.late c.levels.new.rank =
-    record { levels = c.levels.ensures.0; ranks = c.levels.ensures.1; earliest = c.earliest.ensures.earliest; follow = λ i j l. c.followers.ensures i j }
-    in
+    let known : Known J early c.followers.new.rows c.levels.new.times c.levels.new.late c.levels.new.rank = record { levels = c.levels.ensures.0; ranks = c.levels.ensures.1; earliest = c.earliest.ensures.earliest; follow = λ i j l. c.followers.ensures i j } in
     let sunk : Fits cores J early a.row.now c.sink.new.row c.sink.result = c.sink.ensures.1 J early refl known.follow known.earliest.raised in
     let settles : Settles cores J early c.sink.new.row c.settled.new.row c.settled.result = c.settled.ensures.1 J early refl known in
     tightens_settled cores (omega arith) a.size a.start.now rows a.row.now c.settled.new.row c.settled.ensures.0
