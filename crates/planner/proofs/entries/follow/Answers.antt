@@ -1,7 +1,6 @@
 use mathlib.Core.Logic.{inl, inr}
 use mathlib.Core.Path.{refl, sym, ◌∙◌}
 use native.Mathlib.Omega.{arith}
-use borrow.Author.Tests.{not-false}
 use Rattle.planner.proofs.Pending.{rows_long, joined_links}
 use Rattle.planner.proofs.Growing.{true_T}
 use borrow.Author.Rules.{rules}
@@ -12,4 +11,4 @@ returns-then-not-has c =
     rw c.link.ensures (inr (rows_long _ _, joined_links _ _ _ c.requires.0 (omega arith) (omega arith) c.with-more.ensures))
 
 pub returns-else-not-has : goal.returns-else-not-has
-returns-else-not-has c = inl (true_T _ (sym c.has.ensures ∙ not-false _ c.if-not-has.false), refl)
+returns-else-not-has c = inl (true_T _ (sym c.has.ensures ∙ c.if-not-has.false), refl)

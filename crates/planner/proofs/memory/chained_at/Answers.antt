@@ -2,7 +2,6 @@ use mathlib.Core.Logic.{◌⊎◌, inl, inr, ⊎_elim}
 use Prim.Native.Nat.{ℕ, ◌<◌}
 use native.Mathlib.Omega.{arith}
 use borrow.Author.Rules.{rules}
-use borrow.Author.Tests.{not-true, not-false}
 use lib.Dec.{T}
 use lib.ListN.{get_or}
 use Rattle.schedule.specs.Count.{count}
@@ -18,7 +17,7 @@ returns-then-b-size c = beyond_chained _ _ _ c.if-b-size.true c.part_of.ensures
 
 pub returns-then-not-part_of : goal.returns-then-not-part_of
 returns-then-not-part_of c =
-    whether_no (λ x. c.part_of-2.ensures.no (not-true _ c.if-not-part_of.true) (chained_part _ _ _ _ _ c.requires.1 c.below.ensures c.without.ensures x))
+    whether_no (λ x. c.part_of-2.ensures.no c.if-not-part_of.true (chained_part _ _ _ _ _ c.requires.1 c.below.ensures c.without.ensures x))
 
 pub loop-rest-init : goal.loop-rest-init
 loop-rest-init c = ((λ j t. t), (λ a t. inl t))
@@ -32,7 +31,7 @@ bounds-before-a c =
 
 pub returns-then-not-part_of-2 : goal.returns-then-not-part_of-2
 returns-then-not-part_of-2 c =
-    whether_no (λ x. c.part_of-in-loop-rest.ensures.no (not-true _ c.if-not-part_of-2.true) (x.joins c.first-a.result.0 (c.loop-rest.invariant.0 _ ((let it : (c.first-a.result.0 < 64) × T (has c.loop-rest.rest c.first-a.result.0) = c.first-a.ensures.met c.loop-rest-test.true in it)).1)))
+    whether_no (λ x. c.part_of-in-loop-rest.ensures.no c.if-not-part_of-2.true (x.joins c.first-a.result.0 (c.loop-rest.invariant.0 _ ((let it : (c.first-a.result.0 < 64) × T (has c.loop-rest.rest c.first-a.result.0) = c.first-a.ensures.met c.loop-rest-test.true in it)).1)))
 
 pub loop-rest-smaller : goal.loop-rest-smaller
 loop-rest-smaller c =
@@ -42,12 +41,12 @@ pub loop-rest-preserved : goal.loop-rest-preserved
 loop-rest-preserved c =
     let inv = c.loop-rest.invariant in
     let w = c.rest-rest.ensures c.first-a.result.0 c.first-a.ensures in
-    let sub = c.part_of-in-loop-rest.ensures.yes (not-false _ c.if-not-part_of-2.false) in (
+    let sub = c.part_of-in-loop-rest.ensures.yes c.if-not-part_of-2.false in (
       (λ j t. inv.0 j (walk_sub _ _ _ w j t)),
       (λ a t. ⊎_elim (λ u. ⊎_elim (λ e. inr (rw e sub)) (λ v. inl v) (walk_split _ _ _ w a u)) (λ u. inr u) (inv.1 a t)),
     )
 
 pub returns : goal.returns
 returns c =
-    whether_yes (part_chained _ _ _ _ _ c.requires.1 c.below.ensures c.without.ensures c.if-b-size.false (c.part_of-2.ensures.yes (not-false _ c.if-not-part_of.false))
+    whether_yes (part_chained _ _ _ _ _ c.requires.1 c.below.ensures c.without.ensures c.if-b-size.false (c.part_of-2.ensures.yes c.if-not-part_of.false)
     (λ a t. ⊎_elim (λ u. absurd (has_some _ a u c.loop-rest-test.false)) (λ u. u) (c.loop-rest.invariant.1 a t)))
