@@ -49,7 +49,7 @@ returns-then-settle c =
     λ L t.
     let w = c.wide-size.ensures.0 in
     then_table ((((λ f. omega (arith, size_is L _ t, c.wide-size.ensures.0)), ((λ f. omega arith), λ f. omega (arith, (let l = size_is L _ t in let w = c.wide-size.ensures.0 in sym (t.holds.reads.start c.args.job.0 (omega (arith, w))) ∙ part_at 1 c.args.times.now c.args.job.0 (omega (arith, t.shaped.few, w))))))))
-    (times_fit L _ _ t _ _ _ _ _ w (omega (arith, t.shaped.few, w)) (nothing_low _ c.none.ensures) ((deadline_posed L _ _ t _ _ _ _ c.none.ensures c.wide-size.ensures.0 (omega arith) (omega arith) (omega arith))) _ _ c.settle.ensures _ ((let it : s.args.before.now ≡ joined_rows s.args.before.now c.none.result = sym (ap (joined_rows _) c.none.ensures ∙ rows_same _ t.shaped.befores) in it)) c.if-settle.true)
+    (times_fit L _ _ t _ _ _ _ _ w (omega (arith, t.shaped.few, w)) (nothing_low _ c.none.ensures) ((deadline_posed L _ _ t _ _ _ _ c.none.ensures c.wide-size.ensures.0 (omega arith) (omega arith) (omega arith))) _ _ c.settle.ensures _ ((let it : c.args.before.now ≡ joined_rows c.args.before.now c.none.result = sym (ap (joined_rows _) c.none.ensures ∙ rows_same _ t.shaped.befores) in it)) c.if-settle.true)
 
 pub returns : goal.returns
 returns c = (

@@ -14,26 +14,31 @@ hand_over-requires c =
 
 pub tighten-requires : goal.tighten-requires
 tighten-requires c =
-    (c.requires.waits, rw (c.starts.ensures, (let it : c.hand_over.new.1.1.0 ≡ part 65 c.args.times.now = let e = c.latest.ensures in hands_all 64 _ _ _ (ap length e ∙ part_length 65 c.args.times.now c.requires.long) refl c.hand_over.ensures ∙ e in it)) c.requires.ready)
+    let due : c.hand_over.new.row ≡ part 65 c.args.times.now =
+        hands_all 64 _ _ _ (ap length c.latest.ensures ∙ part_length 65 c.args.times.now c.requires.long) refl c.hand_over.ensures ∙ c.latest.ensures in
+    (c.requires.waits, rw (c.starts.ensures, due) c.requires.ready)
 
 pub keep-requires : goal.keep-requires
-keep-requires c =
-    (c.tighten.ensures.length, c.requires.long)
+keep-requires c = (c.tighten.ensures.length, c.requires.long)
 
 pub returns-then-tighten : goal.returns-then-tighten
 returns-then-tighten c =
+    let due : c.hand_over.new.row ≡ part 65 c.args.times.now =
+        hands_all 64 _ _ _ (ap length c.latest.ensures ∙ part_length 65 c.args.times.now c.requires.long) refl c.hand_over.ensures ∙ c.latest.ensures in
     record {
-      row = c.tighten.new.1.1.1.1.0;
-      tight = rw (c.if-tighten.true, c.starts.ensures, (let it : c.hand_over.new.1.1.0 ≡ part 65 c.args.times.now = let e = c.latest.ensures in hands_all 64 _ _ _ (ap length e ∙ part_length 65 c.args.times.now c.requires.long) refl c.hand_over.ensures ∙ e in it)) at c.tighten.ensures;
+      row = c.tighten.new.row;
+      tight = rw (c.if-tighten.true, c.starts.ensures, due) at c.tighten.ensures;
       kept = λ y. c.keep.ensures;
       left = λ n. absurd (subst T n tt);
     }
 
 pub returns : goal.returns
 returns c =
+    let due : c.hand_over.new.row ≡ part 65 c.args.times.now =
+        hands_all 64 _ _ _ (ap length c.latest.ensures ∙ part_length 65 c.args.times.now c.requires.long) refl c.hand_over.ensures ∙ c.latest.ensures in
     record {
-      row = c.tighten.new.1.1.1.1.0;
-      tight = rw (c.if-tighten.false, c.starts.ensures, (let it : c.hand_over.new.1.1.0 ≡ part 65 c.args.times.now = let e = c.latest.ensures in hands_all 64 _ _ _ (ap length e ∙ part_length 65 c.args.times.now c.requires.long) refl c.hand_over.ensures ∙ e in it)) at c.tighten.ensures;
+      row = c.tighten.new.row;
+      tight = rw (c.if-tighten.false, c.starts.ensures, due) at c.tighten.ensures;
       kept = λ y. absurd (subst T (sym y) tt);
       left = λ n. refl;
     }
