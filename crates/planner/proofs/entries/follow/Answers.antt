@@ -9,6 +9,3 @@ use Rattle.planner.proofs.entries.follow.Goals as goal
 pub returns-then-not-has : goal.returns-then-not-has
 returns-then-not-has c =
     rw c.link.ensures (inr (rows_long _ _, joined_links _ _ _ c.requires.0 (omega arith) (omega arith) c.with-more.ensures))
-
-pub returns-else-not-has : goal.returns-else-not-has
-returns-else-not-has c = inl (true_T _ (sym c.has.ensures ∙ c.if-not-has.false), refl)

@@ -41,9 +41,6 @@ least-requires c =
     let judgeable = sound_judgeable _ _ _ _ sound spells in
     (judgeable, omega arith, late_begins _ _ _ _ sound spells judgeable (omega arith))
 
-pub signed-requires : goal.signed-requires
-signed-requires c = c.least.ensures.0
-
 pub returns : goal.returns
 returns c =
     let a = c.args in

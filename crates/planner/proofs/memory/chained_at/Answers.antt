@@ -15,23 +15,10 @@ use Rattle.planner.proofs.memory.chained_at.Goals as goal
 pub returns-then-b-size : goal.returns-then-b-size
 returns-then-b-size c = beyond_chained _ _ _ c.if-b-size.true c.part_of.ensures
 
-pub returns-then-not-part_of : goal.returns-then-not-part_of
-returns-then-not-part_of c =
-    whether_no (λ x. c.part_of-2.ensures.no c.if-not-part_of.true (chained_part _ _ _ _ _ c.requires.1 c.below.ensures c.without.ensures x))
-
-pub loop-rest-init : goal.loop-rest-init
-loop-rest-init c = ((λ j t. t), (λ a t. inl t))
-
-pub offset_bounds-before-a : goal.offset_bounds-before-a
-offset_bounds-before-a c = omega (arith, ((let it : (c.first-a.result.0 < 64) × T (has c.loop-rest.rest c.first-a.result.0) = c.first-a.ensures.met c.loop-rest-test.true in it)).0)
-
-pub bounds-before-a : goal.bounds-before-a
-bounds-before-a c =
-    omega (arith, ((let it : (c.first-a.result.0 < 64) × T (has c.loop-rest.rest c.first-a.result.0) = c.first-a.ensures.met c.loop-rest-test.true in it)).0, c.requires.0)
-
 pub returns-then-not-part_of-2 : goal.returns-then-not-part_of-2
 returns-then-not-part_of-2 c =
-    whether_no (λ x. c.part_of-in-loop-rest.ensures.no c.if-not-part_of-2.true (x.joins c.first-a.result.0 (c.loop-rest.invariant.0 _ ((let it : (c.first-a.result.0 < 64) × T (has c.loop-rest.rest c.first-a.result.0) = c.first-a.ensures.met c.loop-rest-test.true in it)).1)))
+    let met = c.first-a.ensures.met c.loop-rest-test.true in
+    whether_no (λ x. c.part_of-in-loop-rest.ensures.no c.if-not-part_of-2.true (x.joins c.first-a.result.0 (c.loop-rest.invariant.0 _ met.1)))
 
 pub loop-rest-smaller : goal.loop-rest-smaller
 loop-rest-smaller c =

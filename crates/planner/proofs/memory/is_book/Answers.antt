@@ -10,24 +10,6 @@ use Rattle.planner.proofs.Whether.{whether_no, whether_as}
 use Rattle.planner.proofs.IsBook.{Regular, made_regular, made_steady, regular_ready, steady_made}
 use Rattle.planner.proofs.memory.is_book.Goals as goal
 
-pub returns-then-size-gt64 : goal.returns-then-size-gt64
-returns-then-size-gt64 c =
-    let k = book_in c.args.times.now c.args.before.now in
-    let e : c.wide-size.result ≡ k.size = c.wide-size.ensures.0 in
-    whether_no (λ m. omega (arith, c.if-size-gt64.true, e, (made_regular _ m).few))
-
-pub returns-then-not-limited : goal.returns-then-not-limited
-returns-then-not-limited c =
-    let k = book_in c.args.times.now c.args.before.now in
-    let e : c.wide-size.result ≡ k.size = c.wide-size.ensures.0 in
-    whether_no (λ m. c.limited.ensures.no c.if-not-limited.true (rw e (made_regular _ m).starts))
-
-pub returns-then-not-limited-2 : goal.returns-then-not-limited-2
-returns-then-not-limited-2 c =
-    let k = book_in c.args.times.now c.args.before.now in
-    let e : c.wide-size.result ≡ k.size = c.wide-size.ensures.0 in
-    whether_no (λ m. c.limited-2.ensures.no c.if-not-limited-2.true (rw e (made_regular _ m).latests))
-
 pub returns-then-not-chained : goal.returns-then-not-chained
 returns-then-not-chained c =
     let k = book_in c.args.times.now c.args.before.now in

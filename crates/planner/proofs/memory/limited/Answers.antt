@@ -9,9 +9,6 @@ use Rattle.planner.proofs.IsBook.{Kept, limits_part, limits_at}
 use Rattle.planner.proofs.memory.limited.Goals as goal
 use Rattle.planner.proofs.memory.limited.Goals.{then-i-size, else-i-size}
 
-pub loop-i-init : goal.loop-i-init
-loop-i-init c = (search rules, below_none _)
-
 pub returns-then-times-from : goal.returns-then-times-from
 returns-then-times-from c =
     whether_no
@@ -21,17 +18,6 @@ returns-then-times-from c =
       then-i-size w ↦ omega (arith, k.0 w.if-i-size.true, w.most-is, c.if-times-from.true)
     | else-i-size w ↦ omega (arith, k.1 w.if-i-size.false, w.most-is, c.if-times-from.true)
     ])
-
-pub loop-i-preserved : goal.loop-i-preserved
-loop-i-preserved c =
-    (
-      search rules,
-      below_more _ _ c.loop-i.invariant.1
-          (elim c.if-i-size.branch [
-            then-i-size w ↦ ((λ l. omega (arith, w.most-is, c.if-times-from.false)), (λ l. absurd (omega (arith, w.if-i-size.true))))
-          | else-i-size w ↦ ((λ l. absurd (omega (arith, w.if-i-size.false))), (λ l. omega (arith, w.most-is, c.if-times-from.false)))
-          ]),
-    )
 
 pub returns : goal.returns
 returns c =

@@ -9,21 +9,11 @@ use Rattle.planner.proofs.Whether.{whether_no, whether_as}
 use Rattle.planner.proofs.IsBook.{copied_ready, copied_tight, steady_yes, steady_same, steady_none}
 use Rattle.planner.proofs.memory.steady.Goals as goal
 
-pub hand_over-requires : goal.hand_over-requires
-hand_over-requires c = (omega (arith, ap length c.starts.ensures, c.requires.0), search rules)
-
-pub hand_over-requires-2 : goal.hand_over-requires-2
-hand_over-requires-2 c = (omega (arith, ap length c.latest.ensures, c.requires.2.long), search rules)
-
 pub tighten-requires : goal.tighten-requires
 tighten-requires c =
     let start : c.hand_over.new.row ≡ part 1 c.args.times.now = hands_all 64 _ _ _ (ap length c.starts.ensures ∙ c.requires.0) refl c.hand_over.ensures ∙ c.starts.ensures in
     let due : c.hand_over-2.new.row ≡ part 65 c.args.times.now = hands_all 64 _ _ _ (ap length c.latest.ensures ∙ c.requires.2.long) refl c.hand_over-2.ensures ∙ c.latest.ensures in
     copied_ready _ _ _ _ _ _ _ start due c.none.ensures c.requires.1 c.requires.2
-
-pub same-requires : goal.same-requires
-same-requires c =
-    (ap length c.latest-then-tighten.ensures ∙ c.requires.2.long, c.tighten.ensures.length)
 
 pub returns-then-tighten : goal.returns-then-tighten
 returns-then-tighten c =
