@@ -34,6 +34,7 @@ use Rattle.planner.proofs.TightenLower.{bound_join, bound_same, bound_none}
 
 holds : (b : Bool) → T b → b ≡ true
 holds true t = refl
+holds false t = elim t [ ]
 
 -- ---- a row as it is, and one after another
 pub sunk_same : (m : ℕ) (J : Jobs) (early : ℕ → ℕ) (row : List ℕ) → Sunk m J early row row

@@ -1,20 +1,15 @@
-use mathlib.Core.Logic.{⊎_elim}
-use mathlib.Core.Path.{◌≡◌, sym}
-use Prim.Native.Nat.{ℕ, ◌≤◌, ◌<◌}
-use native.Mathlib.Omega.{arith}
-use borrow.Author.Rules.{rules}
+use mathlib.Core.Path.{◌≡◌}
+use Prim.Native.Nat.{ℕ, ◌≤◌}
 use lib.Dec.{T}
-use lib.ListN.{length, length-set, get_or}
+use lib.ListN.{length, get_or}
 use Rattle.schedule.specs.Count.{count}
 use Rattle.book.specs.Told.{cores}
 use Rattle.sets.specs.Sets.{has}
 use Rattle.schedule.specs.Jobs.{Jobs}
 use Rattle.book.specs.Told.{row_in}
 use Rattle.planner.specs.Inner.Tighten.Tables.{Known}
-use Rattle.planner.specs.Inner.Tighten.Rule.{DueBy, Ruled}
-use Rattle.sets.proofs.Bits.{rest_less, walk_sub}
-use Rattle.sets.proofs.Range.{with_in}
-use Rattle.planner.proofs.TightenSink.{Lowering, lowering_start, lowering_moved, lowering_kept, lowering_moves, due_job, stored_low, sunk_none}
+use Rattle.planner.specs.Inner.Tighten.Rule.{DueBy}
+use Rattle.planner.proofs.TightenSink.{Lowering}
 use Rattle.planner.proofs.tighten.lower_at.Given as goal
 
 abbrev pub invariant-loop-rest : goal.invariant-loop-rest

@@ -1,19 +1,11 @@
-use mathlib.Core.List.{List}
-use mathlib.Core.Path.{◌≡◌, refl, sym, subst}
-use Prim.Native.Nat.{ℕ, ◌≤◌, ◌<◌}
-use native.Mathlib.Omega.{arith}
-use borrow.Author.Rules.{rules}
+use mathlib.Core.Path.{◌≡◌}
+use Prim.Native.Nat.{ℕ, ◌≤◌}
 use lib.ListN.{length}
-use borrow.Author.Tests.{not-true, not-false}
 use Rattle.schedule.specs.Jobs.{Jobs}
 use Rattle.book.specs.Told.{cores}
-use Rattle.planner.specs.declared.tighten.Moved.{Moved}
-use Rattle.planner.specs.declared.tighten.Moved.TheVariants.{Those}
-use Rattle.book.specs.Told.{row_in}
 use Rattle.planner.specs.Inner.Tighten.Tables.{Known}
-use Rattle.planner.specs.Inner.Tighten.{Moves, AtD}
-use Rattle.planner.proofs.TightenDue.{Among, DueBelow, among_start, among_next, due_all, due_by, below_job}
-use Rattle.planner.proofs.TightenSink.{Passing, passing_start, passing_still, passing_moved, passing_moves, none_join, or_some}
+use Rattle.planner.proofs.TightenDue.{Among}
+use Rattle.planner.proofs.TightenSink.{Passing}
 use Rattle.planner.proofs.tighten.pass.Given as goal
 
 abbrev pub invariant-loop-due : goal.invariant-loop-due

@@ -1,22 +1,13 @@
 -- `planner::tighten::settled` meets its contract. The measure is the sum of the row: each pass that moves a job lowers it.
-use mathlib.Core.Path.{◌≡◌, sym, subst}
+use mathlib.Core.Path.{◌≡◌}
 use Prim.Native.Nat.{ℕ}
-use native.Mathlib.Omega.{arith}
-use borrow.Author.Rules.{rules}
-use lib.Dec.{T}
 use lib.ListN.{length}
-use mathlib.Core.List.{List}
 use Rattle.schedule.specs.Jobs.{Jobs}
 use Rattle.schedule.specs.Theory.Sum.{sum}
-use Rattle.schedule.proofs.Rows.{sum_less}
 use Rattle.book.specs.Told.{cores}
-use Rattle.planner.specs.declared.tighten.Moved.{Moved}
-use Rattle.planner.specs.declared.tighten.Moved.TheVariants.{Those}
 use Rattle.book.specs.Told.{row_in}
 use Rattle.planner.specs.Inner.Tighten.Tables.{Known}
-use Rattle.planner.specs.Inner.Tighten.{Moves, Swept}
 use Rattle.planner.specs.Inner.Tighten.Sink.{Sunk}
-use Rattle.planner.proofs.TightenSink.{sunk_same, sunk_join, none_join}
 use Rattle.planner.proofs.tighten.settled.Given as goal
 
 abbrev pub invariant-loop-moved : goal.invariant-loop-moved

@@ -1,12 +1,6 @@
-use mathlib.Core.Logic.{⊎_elim}
-use Prim.Native.Nat.{◌<◌}
-use native.Mathlib.Omega.{arith}
-use lib.Dec.{T}
 use Rattle.schedule.specs.Count.{count}
 use Rattle.sets.specs.Sets.{has}
-use Rattle.sets.proofs.Bits.{rest_less}
-use Rattle.planner.proofs.TightenEarly.{Reached, reached_start, reached_same, reached_more, reached_after}
-use borrow.Author.Rules.{rules}
+use Rattle.planner.proofs.TightenEarly.{Reached}
 use Rattle.planner.proofs.tighten.early.after.Given as goal
 
 abbrev pub invariant-loop-rest : goal.invariant-loop-rest

@@ -1,10 +1,6 @@
 use Prim.Native.Nat.{◌-◌}
-use native.Mathlib.Omega.{arith}
-use lib.ListN.{get_or}
 use Rattle.planner.specs.Inner.Chains.{joined_rows}
-use Rattle.planner.specs.Inner.Tighten.Early.{After}
-use Rattle.planner.proofs.TightenEarly.{Making, making_start, making_unblocked, making_time, making_next, making_end}
-use borrow.Author.Rules.{rules}
+use Rattle.planner.proofs.TightenEarly.{Making}
 use Rattle.planner.proofs.tighten.early.earliest.Given as goal
 
 abbrev pub invariant-loop-k : goal.invariant-loop-k

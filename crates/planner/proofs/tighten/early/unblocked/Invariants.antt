@@ -1,17 +1,11 @@
 -- `planner::tighten::early::unblocked` meets its contract: some unblocked job is not passed yet.
-use mathlib.Core.Logic.{⊎_elim}
-use mathlib.Core.Path.{◌≡◌, sym, subst, ◌∙◌}
-use Prim.Native.Nat.{ℕ, ◌<◌}
-use native.Mathlib.Omega.{arith}
+use Prim.Native.Nat.{ℕ}
 use lib.Dec.{T}
 use lib.ListN.{get_or}
 use Rattle.schedule.specs.Count.{count}
 use Rattle.sets.specs.Sets.{has}
 use Rattle.planner.specs.Inner.Chains.{joined_rows}
 use Rattle.planner.specs.Inner.Tighten.Early.{Unblocked}
-use Rattle.sets.proofs.Bits.{apart_is, apart_has, has_some, rest_less, walk_split, walk_sub}
-use Rattle.planner.proofs.Pending.{rows_at, rows_keep}
-use borrow.Author.Rules.{rules}
 use Rattle.planner.proofs.tighten.early.unblocked.Given as goal
 
 abbrev pub invariant-loop-pending : goal.invariant-loop-pending

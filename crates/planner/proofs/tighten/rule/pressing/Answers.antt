@@ -1,5 +1,4 @@
 use mathlib.Core.Path.{◌∙◌}
-use borrow.Author.Rules.{rules}
 use Rattle.sets.specs.Sets.{has}
 use Rattle.sets.proofs.Bits.{and_has, or_has, count_same}
 use Rattle.planner.proofs.tighten.rule.pressing.Goals as goal

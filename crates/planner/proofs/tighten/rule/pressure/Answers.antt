@@ -1,14 +1,12 @@
-use mathlib.Core.Logic.{⊎_elim}
-use Prim.Native.Nat.{ℕ, ◌-◌, ◌<◌}
+use Prim.Native.Nat.{◌<◌}
 use native.Mathlib.Omega.{arith}
 use lib.ListN.{get_or}
-use Rattle.schedule.specs.Jobs.{Jobs}
 use Rattle.schedule.proofs.Counting.{count_bound}
 use Rattle.book.specs.Told.{cores}
-use Rattle.planner.specs.Inner.Tighten.Rule.{pressed, At}
-use Rattle.planner.proofs.TightenPress.{Passed, passed_start, passed_kept, passed_counted, passed_found, passed_none, passed_own, passed_over}
-use borrow.Author.Rules.{rules}
+use Rattle.planner.specs.Inner.Tighten.Rule.{pressed}
+use Rattle.planner.proofs.TightenPress.{passed_start, passed_kept, passed_counted, passed_found, passed_none, passed_own, passed_over}
 use Rattle.planner.proofs.tighten.rule.pressure.Goals as goal
+use Rattle.planner.proofs.tighten.rule.pressure.Goals.{then-most-room+else-most-room-2+else-most-least, else-most-room}
 
 pub loop-room-init : goal.loop-room-init
 loop-room-init c =
@@ -40,10 +38,11 @@ loop-room-preserved c =
     let room = c.time_at-in-loop-room.ensures.0 in
     let h : get_or a.times.now c.loop-room.k 0 < a.held = omega (arith, c.time_at.ensures.0, c.loop-room-test.true) in (
       omega (arith, (s.0 c.loop-room.k c.loop-room.invariant.0 (omega (arith, s.4, s.5))).0),
-      (λ J early row x. ⊎_elim
-          (λ w. rw w.4 (passed_counted cores x s.2 s.3 s.4 s.5 (c.loop-room.invariant.1 J early row x) h _ w.1.ensures (omega (arith, room, w.2.left))))
-          (λ w. rw w.1 (passed_kept cores x s.2 s.3 s.4 s.5 (c.loop-room.invariant.1 J early row x) h (omega (arith, room, w.0.left))))
-          c.if-most-room.branch),
+      (λ J early row x.
+          elim c.if-most-room.branch [
+            | then-most-room+else-most-room-2+else-most-least w ↦ rw w.most-is (passed_counted cores x s.2 s.3 s.4 s.5 (c.loop-room.invariant.1 J early row x) h _ w.pressing-most.ensures (omega (arith, room, w.if-most-room-2.false)))
+            | else-most-room w ↦ rw w.most-is (passed_kept cores x s.2 s.3 s.4 s.5 (c.loop-room.invariant.1 J early row x) h (omega (arith, room, w.if-most-room.false)))
+          ]),
     )
 
 pub returns-then-last-least : goal.returns-then-last-least

@@ -1,13 +1,8 @@
-use mathlib.Core.Logic.{⊎_elim}
 use Prim.Native.Nat.{ℕ, ◌-◌, ◌<◌}
-use native.Mathlib.Omega.{arith}
-use lib.ListN.{get_or}
 use Rattle.schedule.specs.Jobs.{Jobs}
-use Rattle.schedule.proofs.Counting.{count_bound}
 use Rattle.book.specs.Told.{cores}
-use Rattle.planner.specs.Inner.Tighten.Rule.{pressed, At}
-use Rattle.planner.proofs.TightenPress.{Passed, passed_start, passed_kept, passed_counted, passed_found, passed_none, passed_own, passed_over}
-use borrow.Author.Rules.{rules}
+use Rattle.planner.specs.Inner.Tighten.Rule.{At}
+use Rattle.planner.proofs.TightenPress.{Passed}
 use Rattle.planner.proofs.tighten.rule.pressure.Given as goal
 
 abbrev pub invariant-loop-room : goal.invariant-loop-room

@@ -1,8 +1,5 @@
-use mathlib.Core.Logic.{⊎_elim}
-use mathlib.Core.Path.{◌≡◌, sym, subst}
-use Prim.Native.Nat.{ℕ, ◌-◌, ◌<◌}
-use native.Mathlib.Omega.{arith}
-use borrow.Author.Rules.{rules}
+use mathlib.Core.Path.{◌≡◌}
+use Prim.Native.Nat.{ℕ, ◌<◌}
 use lib.Dec.{T}
 use Rattle.schedule.specs.Count.{count}
 use Rattle.book.specs.Told.{cores}
@@ -11,8 +8,6 @@ use Rattle.schedule.specs.Jobs.{Jobs}
 use Rattle.schedule.specs.Times.{Raised}
 use Rattle.book.specs.Told.{row_in}
 use Rattle.planner.specs.Inner.Tighten.Sink.{Eased}
-use Rattle.sets.proofs.Bits.{rest_less, walk_sub}
-use Rattle.planner.proofs.TightenLower.{eased_same, eased_follow}
 use Rattle.planner.proofs.tighten.sink.capped.Given as goal
 
 abbrev pub invariant-loop-rest : goal.invariant-loop-rest
