@@ -1,13 +1,8 @@
 use mathlib.Core.Logic.{⊎_elim}
-use mathlib.Core.Path.{◌≡◌, refl, sym, ◌∙◌}
-use Prim.Native.Nat.{ℕ, ◌-◌, ◌≤◌, ◌<◌}
+use mathlib.Core.Path.{sym, ◌∙◌}
+use Prim.Native.Nat.{◌≤◌}
 use native.Mathlib.Omega.{arith}
-use borrow.Author.Count.{below_none, below_more}
-use borrow.Author.Rules.{rules}
-use lib.ListN.{length, length-set, get_or}
-use lib.Seq.{get_or-set_same, get_or-set_other}
 use Rattle.schedule.proofs.Tests.{le_or_lt}
-use Rattle.planner.specs.Inner.Chains.{joined_of}
 use Rattle.planner.proofs.Pending.{joined_same, rows_are}
 use Rattle.planner.proofs.chains.link.Goals as goal
 

@@ -1,9 +1,6 @@
-use mathlib.Core.Logic.{inl, inr}
-use mathlib.Core.Path.{refl, sym, ◌∙◌}
+use mathlib.Core.Logic.{inr}
 use native.Mathlib.Omega.{arith}
 use Rattle.planner.proofs.Pending.{rows_long, joined_links}
-use Rattle.planner.proofs.Growing.{true_T}
-use borrow.Author.Rules.{rules}
 use Rattle.planner.proofs.entries.follow.Goals as goal
 
 pub returns-then-not-has : goal.returns-then-not-has

@@ -1,13 +1,8 @@
-use Prim.Native.Nat.{ℕ, ◌-◌, ◌/◌, ◌≤◌, ◌<◌}
 use native.Mathlib.Omega.{arith}
-use borrow.Author.Count.{below_none, below_more}
+use borrow.Author.Count.{below_more}
 use borrow.Author.Rules.{rules}
-use lib.ListN.{length}
-use Rattle.planner.specs.List.{order_at}
-use Rattle.refusal.specs.Table.{Clear}
-use Rattle.planner.specs.Inner.Entries.{Spells}
-use Rattle.planner.proofs.Pairs.{held_both, earned, spells_more, spells_all, spells_held}
-use Rattle.planner.proofs.ListSound.{found_at, none_at}
+use Rattle.planner.proofs.Pairs.{held_both, earned, spells_more, spells_held}
+use Rattle.planner.proofs.ListSound.{found_at}
 use Rattle.planner.proofs.entries.looping_pair.Goals as goal
 
 pub returns-then-number-ne0 : goal.returns-then-number-ne0

@@ -1,10 +1,6 @@
-use Prim.Native.Nat.{ℕ, ◌<◌, ◌-◌, ◌≤◌}
-use borrow.Author.Count.{below_none, below_more}
+use borrow.Author.Count.{below_more}
 use borrow.Author.Rules.{rules}
-use lib.ListN.{length}
-use Rattle.planner.specs.List.{job_at}
-use Rattle.refusal.specs.Table.{Clear}
-use Rattle.planner.proofs.ListSound.{found_at, none_at}
+use Rattle.planner.proofs.ListSound.{found_at}
 use Rattle.planner.proofs.entries.unsound_job.Goals as goal
 
 pub returns-then-number-ne0 : goal.returns-then-number-ne0

@@ -3,7 +3,6 @@ use mathlib.Core.Path.{refl}
 use native.Mathlib.Omega.{arith}
 use mir.Syntax.{w16}
 use mir.ValLaws.{to_z-of_z}
-use borrow.Author.Rules.{rules}
 use Rattle.refusal.specs.Table.{refused, passed}
 use Rattle.planner.specs.List.{Uneven}
 use Rattle.planner.proofs.Pairs.{spells_none}

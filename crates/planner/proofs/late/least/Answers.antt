@@ -1,10 +1,5 @@
-use Prim.Native.Nat.{◌-◌, ◌≤◌}
-use native.Mathlib.Omega.{arith}
 use borrow.Author.Rules.{rules}
-use Rattle.schedule.specs.Theory.Lowest.{Narrowed}
-use Rattle.schedule.proofs.Lowest.{narrow_down, narrow_end}
-use Rattle.planner.specs.Inner.Late.{Leaves}
-use Rattle.planner.proofs.Halving.{halve_up}
+use Rattle.schedule.proofs.Lowest.{narrow_end}
 use Rattle.planner.proofs.late.least.Goals as goal
 
 pub returns : goal.returns

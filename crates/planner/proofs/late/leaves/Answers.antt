@@ -1,7 +1,5 @@
-use borrow.Author.Rules.{rules}
 use Rattle.planner.proofs.Pending.{nothing_ready, nothing_tight}
-use Rattle.planner.proofs.Whether.{whether_no}
-use Rattle.planner.proofs.Halving.{fills_ready, fills_whether, fills_shut}
+use Rattle.planner.proofs.Halving.{fills_ready, fills_whether}
 use Rattle.planner.proofs.late.leaves.Goals as goal
 
 pub tighten-requires : goal.tighten-requires

@@ -1,5 +1,5 @@
 use native.Mathlib.Omega.{arith}
-use Rattle.planner.proofs.HowLate.{short_none, short_refused, short_begins, short_ends}
+use Rattle.planner.proofs.HowLate.{short_none, short_refused, short_ends}
 use Rattle.planner.proofs.late.shorten.Goals as goal
 
 pub returns-then-starts-eq0 : goal.returns-then-starts-eq0

@@ -1,7 +1,6 @@
 use mathlib.Core.Logic.{inl, inr}
 use mathlib.Core.Path.{refl}
 use native.Mathlib.Omega.{arith}
-use borrow.Author.Rules.{rules}
 use Rattle.refusal.specs.Table.{refused}
 use Rattle.planner.specs.List.{Uneven}
 use Rattle.planner.proofs.Pairs.{spells_none}

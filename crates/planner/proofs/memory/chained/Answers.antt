@@ -1,9 +1,5 @@
-use Prim.Native.Nat.{ℕ, ◌-◌, ◌≤◌, ◌<◌}
-use native.Mathlib.Omega.{arith}
-use borrow.Author.Count.{below_none, below_more}
+use borrow.Author.Count.{below_more}
 use borrow.Author.Rules.{rules}
-use Rattle.planner.specs.Inner.Memory.{ChainedAt}
-use Rattle.planner.proofs.Whether.{whether_yes, whether_no}
 use Rattle.planner.proofs.memory.chained.Goals as goal
 
 pub loop-b-preserved : goal.loop-b-preserved

@@ -1,15 +1,7 @@
-use mathlib.Core.Logic.{◌⊎◌, inl, inr, ⊎_elim}
-use Prim.Native.Nat.{ℕ, ◌<◌}
-use native.Mathlib.Omega.{arith}
-use borrow.Author.Rules.{rules}
-use lib.Dec.{T}
-use lib.ListN.{get_or}
-use Rattle.schedule.specs.Count.{count}
-use Rattle.sets.specs.Sets.{has}
+use mathlib.Core.Logic.{inl, inr, ⊎_elim}
 use Rattle.sets.proofs.Bits.{rest_less, walk_sub, walk_split, has_some}
-use Rattle.planner.specs.Inner.Memory.{Sub}
 use Rattle.planner.proofs.Whether.{whether_yes, whether_no}
-use Rattle.planner.proofs.IsBook.{beyond_chained, chained_part, part_chained}
+use Rattle.planner.proofs.IsBook.{beyond_chained, part_chained}
 use Rattle.planner.proofs.memory.chained_at.Goals as goal
 
 pub returns-then-b-size : goal.returns-then-b-size

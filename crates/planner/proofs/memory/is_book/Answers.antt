@@ -1,9 +1,8 @@
 use mathlib.Core.Path.{◌≡◌, subst}
 use Prim.Native.Nat.{ℕ, ◌≤◌}
 use native.Mathlib.Omega.{arith}
-use borrow.Author.Rules.{rules}
 use lib.ListN.{length}
-use Rattle.book.specs.Told.{Book, book_in}
+use Rattle.book.specs.Told.{book_in}
 use Rattle.book.proofs.Parts.{part_length}
 use Rattle.planner.specs.Inner.Memory.{Limits}
 use Rattle.planner.proofs.Whether.{whether_no, whether_as}

@@ -1,11 +1,6 @@
-use mathlib.Core.Logic.{⊎_elim}
-use Prim.Native.Nat.{ℕ, ◌+◌, ◌-◌, ◌≤◌, ◌<◌}
 use native.Mathlib.Omega.{arith}
-use borrow.Author.Count.{below_none, below_more}
-use borrow.Author.Rules.{rules}
-use lib.ListN.{get_or}
 use Rattle.planner.proofs.Whether.{whether_yes, whether_no}
-use Rattle.planner.proofs.IsBook.{Kept, limits_part, limits_at}
+use Rattle.planner.proofs.IsBook.{limits_part, limits_at}
 use Rattle.planner.proofs.memory.limited.Goals as goal
 use Rattle.planner.proofs.memory.limited.Goals.{then-i-size, else-i-size}
 
@@ -15,8 +10,8 @@ returns-then-times-from c =
     (λ x.
     let k = limits_at _ _ _ _ x c.loop-i.i c.loop-i-test.true in
     elim c.if-i-size.branch [
-      then-i-size w ↦ omega (arith, k.0 w.if-i-size.true, w.most-is, c.if-times-from.true)
-    | else-i-size w ↦ omega (arith, k.1 w.if-i-size.false, w.most-is, c.if-times-from.true)
+      | then-i-size w ↦ omega (arith, k.0 w.if-i-size.true, w.most-is, c.if-times-from.true)
+      | else-i-size w ↦ omega (arith, k.1 w.if-i-size.false, w.most-is, c.if-times-from.true)
     ])
 
 pub returns : goal.returns

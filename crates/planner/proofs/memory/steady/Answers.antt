@@ -1,6 +1,4 @@
 use mathlib.Core.Path.{◌≡◌, refl, sym, ap, ◌∙◌}
-use native.Mathlib.Omega.{arith}
-use borrow.Author.Rules.{rules}
 use lib.ListN.{length}
 use Rattle.book.specs.Told.{cores, part}
 use Rattle.planner.specs.Inner.Tighten.{Tightens}
@@ -20,7 +18,7 @@ returns-then-tighten c =
     let start : c.hand_over.new.row ≡ part 1 c.args.times.now = hands_all 64 _ _ _ (ap length c.starts.ensures ∙ c.requires.0) refl c.hand_over.ensures ∙ c.starts.ensures in
     let due : c.hand_over-2.new.row ≡ part 65 c.args.times.now = hands_all 64 _ _ _ (ap length c.latest.ensures ∙ c.requires.2.long) refl c.hand_over-2.ensures ∙ c.latest.ensures in
     let tight : Tightens cores c.args.size (part 1 c.args.times.now) c.args.before.now (part 65 c.args.times.now) c.tighten.new.row c.tighten.result =
-        copied_tight _ _ _ _ _ _ _ start due c.none.ensures c.requires.1 _ _ c.tighten.ensures in
+    copied_tight _ _ _ _ _ _ _ start due c.none.ensures c.requires.1 _ _ c.tighten.ensures in
     whether_as
     (λ e. steady_yes _ _ _ _ _ _ c.requires.2 tight c.if-tighten.true (sym c.latest-then-tighten.ensures ∙ e))
     (λ x. c.latest-then-tighten.ensures ∙ steady_same _ _ _ _ _ _ c.requires.2 tight c.if-tighten.true x)
@@ -31,5 +29,5 @@ returns c =
     let start : c.hand_over.new.row ≡ part 1 c.args.times.now = hands_all 64 _ _ _ (ap length c.starts.ensures ∙ c.requires.0) refl c.hand_over.ensures ∙ c.starts.ensures in
     let due : c.hand_over-2.new.row ≡ part 65 c.args.times.now = hands_all 64 _ _ _ (ap length c.latest.ensures ∙ c.requires.2.long) refl c.hand_over-2.ensures ∙ c.latest.ensures in
     let tight : Tightens cores c.args.size (part 1 c.args.times.now) c.args.before.now (part 65 c.args.times.now) c.tighten.new.row c.tighten.result =
-        copied_tight _ _ _ _ _ _ _ start due c.none.ensures c.requires.1 _ _ c.tighten.ensures in
+    copied_tight _ _ _ _ _ _ _ start due c.none.ensures c.requires.1 _ _ c.tighten.ensures in
     whether_no (steady_none _ _ _ _ _ _ c.requires.2 tight c.if-tighten.false)

@@ -1,7 +1,6 @@
 use mathlib.Core.Path.{refl}
 use mathlib.Core.Logic.{inl, inr}
 use native.Mathlib.Omega.{arith}
-use borrow.Author.Rules.{rules}
 use Rattle.refusal.specs.Table.{refused, Clear}
 use Rattle.refusal.proofs.Table.{then_table}
 use Rattle.planner.specs.Requests.{times_checks}

@@ -1,17 +1,10 @@
 use mathlib.Core.Path.{refl, sym, ◌∙◌}
 use mathlib.Core.Logic.{inl, inr}
 use native.Mathlib.Omega.{arith}
-use Prim.Native.Nat.{◌+◌}
-use borrow.Author.Rules.{rules}
-use lib.ListN.{get_or}
-use Rattle.schedule.specs.Listed.{Listed, with_order}
 use Rattle.refusal.specs.Table.{refused}
 use Rattle.refusal.proofs.Table.{then_table}
-use Rattle.book.specs.Told.{book_in, Told}
-use Rattle.planner.specs.declared.requests.Request.TheVariants.{Before}
-use Rattle.planner.specs.Requests.{Sound}
-use Rattle.planner.proofs.Growing.{Grows, false_T, true_T, size_is, order_held, order_back, order_free, followed_told, told_last}
-use Rattle.planner.proofs.Posed.{posed, order_posed, times_ready, times_fit, times_none}
+use Rattle.planner.proofs.Growing.{false_T, true_T, size_is, order_held, order_back, order_free, followed_told, told_last}
+use Rattle.planner.proofs.Posed.{order_posed, times_ready, times_fit, times_none}
 use Rattle.planner.proofs.requests.add_order.Goals as goal
 
 pub returns-then-a-size : goal.returns-then-a-size

@@ -1,4 +1,3 @@
-use borrow.Author.Rules.{rules}
 use Rattle.book.specs.Told.{book_in}
 use Rattle.planner.specs.declared.requests.Request.TheVariants.{Job, Before, Earlier}
 use Rattle.planner.proofs.Outcome.{says_applies}

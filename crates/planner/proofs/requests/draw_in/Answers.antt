@@ -1,20 +1,13 @@
 use mathlib.Core.Path.{◌≡◌, refl, sym, ap, ◌∙◌}
 use mathlib.Core.Logic.{inl, inr}
-use Prim.Native.Nat.{◌+◌}
 use native.Mathlib.Omega.{arith}
-use borrow.Author.Rules.{rules}
-use Rattle.schedule.specs.Listed.{Listed, with_deadline}
-use lib.ListN.{get_or}
 use Rattle.refusal.specs.Table.{refused}
 use Rattle.refusal.proofs.Table.{then_table}
-use Rattle.book.specs.Told.{book_in, Told}
 use Rattle.book.proofs.Parts.{part_at}
-use Rattle.planner.specs.declared.requests.Request.TheVariants.{Earlier}
-use Rattle.planner.specs.Requests.{Sound}
 use Rattle.planner.specs.Inner.Chains.{joined_rows}
 use Rattle.planner.proofs.Pending.{rows_same}
-use Rattle.planner.proofs.Growing.{Grows, size_is, kept_told, told_last}
-use Rattle.planner.proofs.Posed.{nothing_low, posed, deadline_posed, times_ready, times_fit, times_none}
+use Rattle.planner.proofs.Growing.{size_is, kept_told, told_last}
+use Rattle.planner.proofs.Posed.{nothing_low, deadline_posed, times_ready, times_fit, times_none}
 use Rattle.planner.proofs.requests.draw_in.Goals as goal
 
 pub returns-then-j-size : goal.returns-then-j-size

@@ -1,8 +1,7 @@
-use Prim.Native.Nat.{◌-◌, ◌≤◌}
 use mathlib.Core.Path.{◌≡◌}
 use native.Mathlib.Omega.{arith}
 use borrow.Author.Rules.{rules}
-use Rattle.planner.proofs.HandedOver.{Keeping, keeping_none, keeping_more, keeping_all}
+use Rattle.planner.proofs.HandedOver.{keeping_more, keeping_all}
 use Rattle.planner.proofs.rows.keep.Goals as goal
 
 pub loop-i-preserved : goal.loop-i-preserved
