@@ -1,15 +1,8 @@
 -- `planner::chains::link` meets its contract. The invariant: the rows below y are joined, and the others are as they were.
-use mathlib.Core.Logic.{⊎_elim}
-use mathlib.Core.Path.{◌≡◌, refl, sym, ◌∙◌}
+use mathlib.Core.Path.{◌≡◌}
 use Prim.Native.Nat.{ℕ, ◌-◌, ◌≤◌, ◌<◌}
-use native.Mathlib.Omega.{arith}
-use borrow.Author.Count.{below_none, below_more}
-use borrow.Author.Rules.{rules}
-use lib.ListN.{length, length-set, get_or}
-use lib.Seq.{get_or-set_same, get_or-set_other}
-use Rattle.schedule.proofs.Tests.{le_or_lt}
+use lib.ListN.{length, get_or}
 use Rattle.planner.specs.Inner.Chains.{joined_of}
-use Rattle.planner.proofs.Pending.{joined_same, rows_are}
 use Rattle.planner.proofs.chains.link.Given as goal
 
 abbrev pub invariant-loop-y : goal.invariant-loop-y

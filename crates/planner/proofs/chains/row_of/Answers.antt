@@ -1,5 +1,4 @@
 use mathlib.Core.Path.{sym, ◌∙◌}
-use borrow.Author.Rules.{rules}
 use Rattle.planner.proofs.Pending.{rows_at}
 use Rattle.planner.proofs.chains.row_of.Goals as goal
 

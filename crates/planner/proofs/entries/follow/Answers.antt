@@ -1,15 +1,8 @@
-use mathlib.Core.Logic.{inl, inr}
-use mathlib.Core.Path.{refl, sym, ◌∙◌}
+use mathlib.Core.Logic.{inr}
 use native.Mathlib.Omega.{arith}
-use borrow.Author.Tests.{not-false}
 use Rattle.planner.proofs.Pending.{rows_long, joined_links}
-use Rattle.planner.proofs.Growing.{true_T}
-use borrow.Author.Rules.{rules}
 use Rattle.planner.proofs.entries.follow.Goals as goal
 
 pub returns-then-not-has : goal.returns-then-not-has
 returns-then-not-has c =
     rw c.link.ensures (inr (rows_long _ _, joined_links _ _ _ c.requires.0 (omega arith) (omega arith) c.with-more.ensures))
-
-pub returns-else-not-has : goal.returns-else-not-has
-returns-else-not-has c = inl (true_T _ (sym c.has.ensures ∙ not-false _ c.if-not-has.false), refl)

@@ -1,22 +1,9 @@
-use Prim.Native.Nat.{ℕ, ◌-◌, ◌/◌, ◌≤◌, ◌<◌}
 use native.Mathlib.Omega.{arith}
-use borrow.Author.Count.{below_none, below_more}
+use borrow.Author.Count.{below_more}
 use borrow.Author.Rules.{rules}
-use lib.ListN.{length}
-use Rattle.planner.specs.List.{order_at}
-use Rattle.refusal.specs.Table.{Clear}
-use Rattle.planner.specs.Inner.Entries.{Spells}
-use Rattle.planner.proofs.Pairs.{held_both, earned, spells_more, spells_all, spells_held}
-use Rattle.planner.proofs.ListSound.{found_at, none_at}
+use Rattle.planner.proofs.Pairs.{held_both, earned, spells_more, spells_held}
+use Rattle.planner.proofs.ListSound.{found_at}
 use Rattle.planner.proofs.entries.looping_pair.Goals as goal
-
-pub loop-p-init : goal.loop-p-init
-loop-p-init c = (search rules, below_none _, c.requires.2)
-
-pub closes-number-requires : goal.closes-number-requires
-closes-number-requires c =
-    let h = held_both c.args.size _ c.requires.1 c.loop-p.p _ _ (search rules) c.named-first.ensures c.named-second.ensures in
-    (omega (arith, h.0), omega (arith, h.1))
 
 pub returns-then-number-ne0 : goal.returns-then-number-ne0
 returns-then-number-ne0 c =
@@ -39,8 +26,3 @@ loop-p-preserved c =
       below_more _ _ c.loop-p.invariant.1 ((earned _ _ _ _ _ _ c.loop-p.invariant.2 a b c.closes-number.ensures).none c.if-number-ne0.false),
       spells_more _ _ _ _ c.loop-p.invariant.2 (rw (a, b) at c.follow.ensures),
     )
-
-pub returns : goal.returns
-returns c =
-    let p = c.loop-p in
-    record { numbers = none_at _ _ _ _ (search rules) p.invariant.1; spells = λ e. spells_all _ _ _ _ p.invariant.0 (search rules) p.invariant.2 }

@@ -1,14 +1,9 @@
 -- `planner::entries::looping_pair` meets its contract. The invariant: no pair passed closes a loop, and the rows spell the chains of those passed.
 use Prim.Native.Nat.{ℕ, ◌-◌, ◌/◌, ◌≤◌, ◌<◌}
-use native.Mathlib.Omega.{arith}
-use borrow.Author.Count.{below_none, below_more}
-use borrow.Author.Rules.{rules}
 use lib.ListN.{length}
 use Rattle.planner.specs.List.{order_at}
 use Rattle.refusal.specs.Table.{Clear}
 use Rattle.planner.specs.Inner.Entries.{Spells}
-use Rattle.planner.proofs.Pairs.{held_both, earned, spells_more, spells_all, spells_held}
-use Rattle.planner.proofs.ListSound.{found_at, none_at}
 use Rattle.planner.proofs.entries.looping_pair.Given as goal
 
 abbrev pub invariant-loop-p : goal.invariant-loop-p

@@ -1,14 +1,8 @@
 -- `planner::entries::unheld_pair` meets its contract. The invariant: every pair passed is held.
 use Prim.Native.Nat.{ℕ, ◌<◌, ◌-◌, ◌≤◌, ◌/◌}
-use native.Mathlib.Omega.{arith}
-use borrow.Author.Count.{below_none, below_more}
-use borrow.Author.Rules.{rules}
 use lib.ListN.{length}
-use mathlib.Core.Path.{refl}
-use mathlib.Core.Logic.{inl, inr}
 use Rattle.planner.specs.List.{pair_at}
 use Rattle.refusal.specs.Table.{Clear}
-use Rattle.planner.proofs.ListSound.{found_at, none_at}
 use Rattle.planner.proofs.entries.unheld_pair.Given as goal
 
 abbrev pub invariant-loop-p : goal.invariant-loop-p

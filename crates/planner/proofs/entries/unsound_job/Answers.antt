@@ -1,14 +1,7 @@
-use Prim.Native.Nat.{ℕ, ◌<◌, ◌-◌, ◌≤◌}
-use borrow.Author.Count.{below_none, below_more}
+use borrow.Author.Count.{below_more}
 use borrow.Author.Rules.{rules}
-use lib.ListN.{length}
-use Rattle.planner.specs.List.{job_at}
-use Rattle.refusal.specs.Table.{Clear}
-use Rattle.planner.proofs.ListSound.{found_at, none_at}
+use Rattle.planner.proofs.ListSound.{found_at}
 use Rattle.planner.proofs.entries.unsound_job.Goals as goal
-
-pub loop-i-init : goal.loop-i-init
-loop-i-init c = (search rules, below_none _)
 
 pub returns-then-number-ne0 : goal.returns-then-number-ne0
 returns-then-number-ne0 c =
@@ -19,6 +12,3 @@ pub loop-i-preserved : goal.loop-i-preserved
 loop-i-preserved c =
     let p = c.loop-i in
     (search rules, below_more _ _ p.invariant.1 ((c.fault-number.ensures 0).none c.if-number-ne0.false))
-
-pub returns : goal.returns
-returns c = none_at _ _ _ _ (search rules) c.loop-i.invariant.1

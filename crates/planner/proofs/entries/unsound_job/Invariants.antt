@@ -1,11 +1,8 @@
 -- `planner::entries::unsound_job` meets its contract. The invariant: no job passed has a fault.
 use Prim.Native.Nat.{ℕ, ◌<◌, ◌-◌, ◌≤◌}
-use borrow.Author.Count.{below_none, below_more}
-use borrow.Author.Rules.{rules}
 use lib.ListN.{length}
 use Rattle.planner.specs.List.{job_at}
 use Rattle.refusal.specs.Table.{Clear}
-use Rattle.planner.proofs.ListSound.{found_at, none_at}
 use Rattle.planner.proofs.entries.unsound_job.Given as goal
 
 abbrev pub invariant-loop-i : goal.invariant-loop-i

@@ -1,12 +1,8 @@
 -- `planner::late::fill` meets its contract. The invariant: the deadlines passed are tried.
 use Prim.Native.Nat.{ℕ, ◌-◌, ◌≤◌, ◌<◌}
-use mathlib.Core.Path.{◌≡◌, sym, subst}
-use native.Mathlib.Omega.{arith}
-use borrow.Author.Rules.{rules}
-use lib.Dec.{T}
+use mathlib.Core.Path.{◌≡◌}
 use lib.ListN.{length, get_or}
 use Rattle.planner.specs.Inner.Late.{tried_of}
-use Rattle.planner.proofs.Halving.{fills_none, fills_more}
 use Rattle.planner.proofs.late.fill.Given as goal
 
 abbrev pub invariant-loop-i : goal.invariant-loop-i

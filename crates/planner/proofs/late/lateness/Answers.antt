@@ -3,7 +3,6 @@ use mathlib.Core.Path.{refl}
 use native.Mathlib.Omega.{arith}
 use mir.Syntax.{w16}
 use mir.ValLaws.{to_z-of_z}
-use borrow.Author.Rules.{rules}
 use Rattle.refusal.specs.Table.{refused, passed}
 use Rattle.planner.specs.List.{Uneven}
 use Rattle.planner.proofs.Pairs.{spells_none}
@@ -16,30 +15,37 @@ returns-then-uneven c = (omega arith, refused _ _ (inl (c.uneven.ensures.yes c.i
 
 -- no jobs are not too many
 pub returns-then-starts-eq0 : goal.returns-then-starts-eq0
-returns-then-starts-eq0 c = (omega arith, refused _ _ (inr ((let it : let a = c.args in Uneven a.starts.now a.deadlines.now a.pairs.now → ⊥ = c.uneven.ensures.no c.if-uneven.false in it), inr ((λ g. omega arith), inl (c.if-starts-eq0.true, refl, refl)))) refl)
+returns-then-starts-eq0 c =
+    let a = c.args in
+    let even : Uneven a.starts.now a.deadlines.now a.pairs.now → ⊥ = c.uneven.ensures.no c.if-uneven.false in
+    (omega arith, refused _ _ (inr (even, inr ((λ g. omega arith), inl (c.if-starts-eq0.true, refl, refl)))) refl)
 
 pub faulty-found-requires : goal.faulty-found-requires
 faulty-found-requires c =
     let a = c.args in
-    (even_by a.starts.now a.deadlines.now a.pairs.now ((let it : let a = c.args in Uneven a.starts.now a.deadlines.now a.pairs.now → ⊥ = c.uneven.ensures.no c.if-uneven.false in it)), spells_none _)
+    (even_by a.starts.now a.deadlines.now a.pairs.now (c.uneven.ensures.no c.if-uneven.false), spells_none _)
 
 pub returns-then-found-ne0 : goal.returns-then-found-ne0
 returns-then-found-ne0 c =
     let a = c.args in
-    (omega (arith, c.if-found-ne0.true), late_refused a.starts.now a.deadlines.now a.pairs.now _ _ ((let it : let a = c.args in Uneven a.starts.now a.deadlines.now a.pairs.now → ⊥ = c.uneven.ensures.no c.if-uneven.false in it)) c.if-starts-eq0.false (c.faulty-found.ensures.numbers.some c.if-found-ne0.true))
+    let even : Uneven a.starts.now a.deadlines.now a.pairs.now → ⊥ = c.uneven.ensures.no c.if-uneven.false in
+    (omega (arith, c.if-found-ne0.true), late_refused a.starts.now a.deadlines.now a.pairs.now _ _ even c.if-starts-eq0.false (c.faulty-found.ensures.numbers.some c.if-found-ne0.true))
 
 pub least-requires : goal.least-requires
 least-requires c =
+    let a = c.args in
+    let even : Uneven a.starts.now a.deadlines.now a.pairs.now → ⊥ = c.uneven.ensures.no c.if-uneven.false in
+    let sound : Sound a.starts.now a.deadlines.now a.pairs.now = sound_counted a.starts.now a.deadlines.now a.pairs.now even (c.faulty-found.ensures.numbers.none c.if-found-ne0.false) in
     let spells = c.faulty-found.ensures.spells c.if-found-ne0.false in
-    let judgeable = sound_judgeable _ _ _ _ ((let it : let a = c.args in Sound a.starts.now a.deadlines.now a.pairs.now = let a = c.args in sound_counted a.starts.now a.deadlines.now a.pairs.now ((let it : let a = c.args in Uneven a.starts.now a.deadlines.now a.pairs.now → ⊥ = c.uneven.ensures.no c.if-uneven.false in it)) (c.faulty-found.ensures.numbers.none c.if-found-ne0.false) in it)) spells in
-    (judgeable, omega arith, late_begins _ _ _ _ ((let it : let a = c.args in Sound a.starts.now a.deadlines.now a.pairs.now = let a = c.args in sound_counted a.starts.now a.deadlines.now a.pairs.now ((let it : let a = c.args in Uneven a.starts.now a.deadlines.now a.pairs.now → ⊥ = c.uneven.ensures.no c.if-uneven.false in it)) (c.faulty-found.ensures.numbers.none c.if-found-ne0.false) in it)) spells judgeable (omega arith))
-
-pub signed-requires : goal.signed-requires
-signed-requires c = c.least.ensures.0
+    let judgeable = sound_judgeable _ _ _ _ sound spells in
+    (judgeable, omega arith, late_begins _ _ _ _ sound spells judgeable (omega arith))
 
 pub returns : goal.returns
 returns c =
+    let a = c.args in
+    let even : Uneven a.starts.now a.deadlines.now a.pairs.now → ⊥ = c.uneven.ensures.no c.if-uneven.false in
+    let sound : Sound a.starts.now a.deadlines.now a.pairs.now = sound_counted a.starts.now a.deadlines.now a.pairs.now even (c.faulty-found.ensures.numbers.none c.if-found-ne0.false) in
     let clear = c.faulty-found.ensures.numbers.none c.if-found-ne0.false in
     rw (c.signed.ensures, to_z-of_z w16 _ (origin_fits c.least.result c.least.ensures.0))
-    (passed ((let it : let a = c.args in Uneven a.starts.now a.deadlines.now a.pairs.now → ⊥ = c.uneven.ensures.no c.if-uneven.false in it), (clear.0, (c.if-starts-eq0.false, clear.1)))
-    (late_ends _ _ _ _ ((let it : let a = c.args in Sound a.starts.now a.deadlines.now a.pairs.now = let a = c.args in sound_counted a.starts.now a.deadlines.now a.pairs.now ((let it : let a = c.args in Uneven a.starts.now a.deadlines.now a.pairs.now → ⊥ = c.uneven.ensures.no c.if-uneven.false in it)) (c.faulty-found.ensures.numbers.none c.if-found-ne0.false) in it)) (c.faulty-found.ensures.spells c.if-found-ne0.false) _ c.least.ensures.1))
+    (passed (even, (clear.0, (c.if-starts-eq0.false, clear.1)))
+    (late_ends _ _ _ _ sound (c.faulty-found.ensures.spells c.if-found-ne0.false) _ c.least.ensures.1))

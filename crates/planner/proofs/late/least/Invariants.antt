@@ -1,11 +1,7 @@
 -- `planner::late::least` meets its contract. The invariant: a plan is left at `to`, and at no number below `from`.
 use Prim.Native.Nat.{◌-◌, ◌≤◌}
-use native.Mathlib.Omega.{arith}
-use borrow.Author.Rules.{rules}
 use Rattle.schedule.specs.Theory.Lowest.{Narrowed}
-use Rattle.schedule.proofs.Lowest.{narrow_down, narrow_end}
 use Rattle.planner.specs.Inner.Late.{Leaves}
-use Rattle.planner.proofs.Halving.{halve_up}
 use Rattle.planner.proofs.late.least.Given as goal
 
 abbrev pub invariant-loop-from : goal.invariant-loop-from

@@ -1,13 +1,6 @@
-use borrow.Author.Rules.{rules}
 use Rattle.planner.proofs.Pending.{nothing_ready, nothing_tight}
-use Rattle.planner.proofs.Whether.{whether_no}
-use Rattle.planner.proofs.Halving.{fills_ready, fills_whether, fills_shut}
+use Rattle.planner.proofs.Halving.{fills_ready, fills_whether}
 use Rattle.planner.proofs.late.leaves.Goals as goal
-
-pub fill-requires : goal.fill-requires
-fill-requires c =
-    let s = c.requires in
-    (s.0.even, s.0.few, s.0.late, search rules, s.1)
 
 pub tighten-requires : goal.tighten-requires
 tighten-requires c =
@@ -17,7 +10,3 @@ pub returns-then-fill : goal.returns-then-fill
 returns-then-fill c =
     fills_whether c.args.how _ _ _ c.requires.0 c.args.k _ _ c.fill.ensures c.if-fill.true _ _
     (nothing_tight _ _ _ _ _ _ _ _ c.none.ensures c.requires.0.rows c.tighten.ensures)
-
-pub returns : goal.returns
-returns c =
-    whether_no (fills_shut c.args.how _ _ _ c.requires.0 c.args.k _ _ c.fill.ensures c.if-fill.false)

@@ -1,22 +1,13 @@
 use native.Mathlib.Omega.{arith}
-use borrow.Author.Tests.{not-true, not-false}
-use Rattle.planner.proofs.HowLate.{short_none, short_refused, short_begins, short_ends}
+use Rattle.planner.proofs.HowLate.{short_none, short_refused, short_ends}
 use Rattle.planner.proofs.late.shorten.Goals as goal
 
 pub returns-then-starts-eq0 : goal.returns-then-starts-eq0
 returns-then-starts-eq0 c = short_none _ _ _ c.requires c.if-starts-eq0.true
 
-pub leaves-requires : goal.leaves-requires
-leaves-requires c = (c.requires, omega arith)
-
 pub returns-then-not-leaves : goal.returns-then-not-leaves
-returns-then-not-leaves c = (omega arith, short_refused _ _ _ c.requires (c.leaves.ensures.no (not-true _ c.if-not-leaves.true)))
-
-pub least-requires : goal.least-requires
-least-requires c =
-    let s = c.requires in
-    (s, omega arith, short_begins _ _ _ s (omega arith) (c.leaves.ensures.yes (not-false _ c.if-not-leaves.false)))
+returns-then-not-leaves c = (omega arith, short_refused _ _ _ c.requires (c.leaves.ensures.no c.if-not-leaves.true))
 
 pub returns : goal.returns
 returns c =
-    short_ends _ _ _ c.requires (c.leaves.ensures.yes (not-false _ c.if-not-leaves.false)) _ c.least.ensures.1
+    short_ends _ _ _ c.requires (c.leaves.ensures.yes c.if-not-leaves.false) _ c.least.ensures.1

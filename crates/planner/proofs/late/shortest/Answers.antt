@@ -1,7 +1,6 @@
 use mathlib.Core.Logic.{inl, inr}
 use mathlib.Core.Path.{refl}
 use native.Mathlib.Omega.{arith}
-use borrow.Author.Rules.{rules}
 use Rattle.refusal.specs.Table.{refused}
 use Rattle.planner.specs.List.{Uneven}
 use Rattle.planner.proofs.Pairs.{spells_none}
@@ -15,14 +14,24 @@ returns-then-uneven c = (omega arith, refused _ _ (inl (inl (c.uneven.ensures.ye
 pub faulty-found-requires : goal.faulty-found-requires
 faulty-found-requires c =
     let a = c.args in
-    (even_by a.starts.now a.deadlines.now a.pairs.now ((let it : let a = c.args in Uneven a.starts.now a.deadlines.now a.pairs.now → ⊥ = c.uneven.ensures.no c.if-uneven.false in it)), spells_none _)
+    (even_by a.starts.now a.deadlines.now a.pairs.now (c.uneven.ensures.no c.if-uneven.false), spells_none _)
 
 pub returns-then-found-ne0 : goal.returns-then-found-ne0
-returns-then-found-ne0 c = (omega (arith, c.if-found-ne0.true), refused _ _ (inl (inr ((let it : let a = c.args in Uneven a.starts.now a.deadlines.now a.pairs.now → ⊥ = c.uneven.ensures.no c.if-uneven.false in it), c.faulty-found.ensures.numbers.some c.if-found-ne0.true))) refl)
+returns-then-found-ne0 c =
+    let a = c.args in
+    let even : Uneven a.starts.now a.deadlines.now a.pairs.now → ⊥ = c.uneven.ensures.no c.if-uneven.false in
+    (omega (arith, c.if-found-ne0.true), refused _ _ (inl (inr (even, c.faulty-found.ensures.numbers.some c.if-found-ne0.true))) refl)
 
 pub shorten-requires : goal.shorten-requires
-shorten-requires c = sound_judgeable _ _ _ _ ((let it : let a = c.args in Sound a.starts.now a.deadlines.now a.pairs.now = let a = c.args in sound_counted a.starts.now a.deadlines.now a.pairs.now ((let it : let a = c.args in Uneven a.starts.now a.deadlines.now a.pairs.now → ⊥ = c.uneven.ensures.no c.if-uneven.false in it)) (c.faulty-found.ensures.numbers.none c.if-found-ne0.false) in it)) (c.faulty-found.ensures.spells c.if-found-ne0.false)
+shorten-requires c =
+    let a = c.args in
+    let even : Uneven a.starts.now a.deadlines.now a.pairs.now → ⊥ = c.uneven.ensures.no c.if-uneven.false in
+    let sound : Sound a.starts.now a.deadlines.now a.pairs.now = sound_counted a.starts.now a.deadlines.now a.pairs.now even (c.faulty-found.ensures.numbers.none c.if-found-ne0.false) in
+    sound_judgeable _ _ _ _ sound (c.faulty-found.ensures.spells c.if-found-ne0.false)
 
 pub returns : goal.returns
 returns c =
-    ends_shortens _ _ _ _ ((let it : let a = c.args in Sound a.starts.now a.deadlines.now a.pairs.now = let a = c.args in sound_counted a.starts.now a.deadlines.now a.pairs.now ((let it : let a = c.args in Uneven a.starts.now a.deadlines.now a.pairs.now → ⊥ = c.uneven.ensures.no c.if-uneven.false in it)) (c.faulty-found.ensures.numbers.none c.if-found-ne0.false) in it)) (c.faulty-found.ensures.spells c.if-found-ne0.false) ((let it : let a = c.args in Uneven a.starts.now a.deadlines.now a.pairs.now → ⊥ = c.uneven.ensures.no c.if-uneven.false in it)) c.shorten.result c.shorten.ensures
+    let a = c.args in
+    let even : Uneven a.starts.now a.deadlines.now a.pairs.now → ⊥ = c.uneven.ensures.no c.if-uneven.false in
+    let sound : Sound a.starts.now a.deadlines.now a.pairs.now = sound_counted a.starts.now a.deadlines.now a.pairs.now even (c.faulty-found.ensures.numbers.none c.if-found-ne0.false) in
+    ends_shortens _ _ _ _ sound (c.faulty-found.ensures.spells c.if-found-ne0.false) even c.shorten.result c.shorten.ensures

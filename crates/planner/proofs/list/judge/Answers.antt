@@ -2,7 +2,7 @@ use mathlib.Core.Logic.{inl, inr, ⊎_elim}
 use mathlib.Core.Path.{refl}
 use native.Mathlib.Omega.{arith}
 use borrow.Author.Rules.{rules}
-use Rattle.planner.specs.List.{Misshapen}
+use Rattle.planner.specs.List.{Misshapen, Uneven}
 use Rattle.refusal.specs.Table.{refused}
 use Rattle.planner.proofs.Pairs.{spells_none}
 use Rattle.planner.proofs.ListSound.{Sound, even_by, sound_counted, sound_judgeable, settles_says}
@@ -20,14 +20,24 @@ faulty-found-requires c =
     (even_by a.starts.now a.deadlines.now a.pairs.now (c.uneven.ensures.no c.if-uneven.false), spells_none _)
 
 pub returns-then-found-ne0 : goal.returns-then-found-ne0
-returns-then-found-ne0 c = (omega (arith, c.if-found-ne0.true), refused _ _ (inl (inr ((let it : ⊥ = ⊎_elim (c.uneven.ensures.no c.if-uneven.false) (λ g. omega (arith, c.if-latest-starts.false)) (,) in it) c.faulty-found.ensures.numbers.some c.if-found-ne0.true))) refl)
+returns-then-found-ne0 c =
+    let a = c.args in
+    let even : Uneven a.starts.now a.deadlines.now a.pairs.now → ⊥ = c.uneven.ensures.no c.if-uneven.false in
+    let shape : Misshapen a.starts.now a.deadlines.now a.pairs.now a.latest.now → ⊥ = λ m. ⊎_elim even (λ g. omega (arith, c.if-latest-starts.false)) m in
+    (omega (arith, c.if-found-ne0.true), refused _ _ (inl (inr (shape, c.faulty-found.ensures.numbers.some c.if-found-ne0.true))) refl)
 
 pub settle-requires : goal.settle-requires
 settle-requires c =
-    (sound_judgeable _ _ _ _ ((let it : let a = c.args in Sound a.starts.now a.deadlines.now a.pairs.now = let a = c.args in sound_counted a.starts.now a.deadlines.now a.pairs.now (c.uneven.ensures.no c.if-uneven.false) (c.faulty-found.ensures.numbers.none c.if-found-ne0.false) in it)) (c.faulty-found.ensures.spells c.if-found-ne0.false), search rules)
+    let a = c.args in
+    let even : Uneven a.starts.now a.deadlines.now a.pairs.now → ⊥ = c.uneven.ensures.no c.if-uneven.false in
+    let sound : Sound a.starts.now a.deadlines.now a.pairs.now = sound_counted a.starts.now a.deadlines.now a.pairs.now even (c.faulty-found.ensures.numbers.none c.if-found-ne0.false) in
+    (sound_judgeable _ _ _ _ sound (c.faulty-found.ensures.spells c.if-found-ne0.false), search rules)
 
 pub returns : goal.returns
 returns c =
     let a = c.args in
-    settles_says a.starts.now a.deadlines.now a.pairs.now _ ((let it : let a = c.args in Sound a.starts.now a.deadlines.now a.pairs.now = let a = c.args in sound_counted a.starts.now a.deadlines.now a.pairs.now (c.uneven.ensures.no c.if-uneven.false) (c.faulty-found.ensures.numbers.none c.if-found-ne0.false) in it)) (c.faulty-found.ensures.spells c.if-found-ne0.false) a.latest.now _ c.settle.result
-    ((let it : ⊥ = ⊎_elim (c.uneven.ensures.no c.if-uneven.false) (λ g. omega (arith, c.if-latest-starts.false)) (,) in it) c.faulty-found.ensures.numbers.none c.if-found-ne0.false) c.settle.ensures
+    let even : Uneven a.starts.now a.deadlines.now a.pairs.now → ⊥ = c.uneven.ensures.no c.if-uneven.false in
+    let shape : Misshapen a.starts.now a.deadlines.now a.pairs.now a.latest.now → ⊥ = λ m. ⊎_elim even (λ g. omega (arith, c.if-latest-starts.false)) m in
+    let sound : Sound a.starts.now a.deadlines.now a.pairs.now = sound_counted a.starts.now a.deadlines.now a.pairs.now even (c.faulty-found.ensures.numbers.none c.if-found-ne0.false) in
+    settles_says a.starts.now a.deadlines.now a.pairs.now _ sound (c.faulty-found.ensures.spells c.if-found-ne0.false) a.latest.now _ c.settle.result
+    (shape, c.faulty-found.ensures.numbers.none c.if-found-ne0.false) c.settle.ensures

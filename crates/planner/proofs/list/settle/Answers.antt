@@ -1,7 +1,6 @@
 use native.Mathlib.Omega.{arith}
 use Rattle.planner.proofs.Pending.{nothing_ready, nothing_tight}
 use Rattle.planner.proofs.HandedOver.{hands_tightenable, settles_fits, settles_none}
-use borrow.Author.Rules.{rules}
 use Rattle.planner.proofs.list.settle.Goals as goal
 
 pub tighten-requires : goal.tighten-requires

@@ -1,22 +1,7 @@
-use Prim.Native.Nat.{ℕ, ◌-◌, ◌≤◌, ◌<◌}
-use native.Mathlib.Omega.{arith}
-use borrow.Author.Count.{below_none, below_more}
+use borrow.Author.Count.{below_more}
 use borrow.Author.Rules.{rules}
-use borrow.Author.Tests.{not-true, not-false}
-use Rattle.planner.specs.Inner.Memory.{ChainedAt}
-use Rattle.planner.proofs.Whether.{whether_yes, whether_no}
 use Rattle.planner.proofs.memory.chained.Goals as goal
-
-pub loop-b-init : goal.loop-b-init
-loop-b-init c = (search rules, below_none _)
-
-pub returns-then-not-chained_at : goal.returns-then-not-chained_at
-returns-then-not-chained_at c =
-    whether_no (λ x. c.chained_at.ensures.no (not-true _ c.if-not-chained_at.true) (x c.loop-b.b c.loop-b-test.true))
 
 pub loop-b-preserved : goal.loop-b-preserved
 loop-b-preserved c =
-    (search rules, below_more _ _ c.loop-b.invariant.1 (c.chained_at.ensures.yes (not-false _ c.if-not-chained_at.false)))
-
-pub returns : goal.returns
-returns c = whether_yes (λ b l. c.loop-b.invariant.1 b (omega arith))
+    (search rules, below_more _ _ c.loop-b.invariant.1 (c.chained_at.ensures.yes c.if-not-chained_at.false))

@@ -1,11 +1,6 @@
 -- `planner::memory::chained` meets its contract. The invariant: the sets passed are chained.
 use Prim.Native.Nat.{ℕ, ◌-◌, ◌≤◌, ◌<◌}
-use native.Mathlib.Omega.{arith}
-use borrow.Author.Count.{below_none, below_more}
-use borrow.Author.Rules.{rules}
-use borrow.Author.Tests.{not-true, not-false}
 use Rattle.planner.specs.Inner.Memory.{ChainedAt}
-use Rattle.planner.proofs.Whether.{whether_yes, whether_no}
 use Rattle.planner.proofs.memory.chained.Given as goal
 
 abbrev pub invariant-loop-b : goal.invariant-loop-b

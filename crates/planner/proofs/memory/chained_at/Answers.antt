@@ -1,38 +1,16 @@
-use mathlib.Core.Logic.{◌⊎◌, inl, inr, ⊎_elim}
-use Prim.Native.Nat.{ℕ, ◌<◌}
-use native.Mathlib.Omega.{arith}
-use borrow.Author.Rules.{rules}
-use borrow.Author.Tests.{not-true, not-false}
-use lib.Dec.{T}
-use lib.ListN.{get_or}
-use Rattle.schedule.specs.Count.{count}
-use Rattle.sets.specs.Sets.{has}
+use mathlib.Core.Logic.{inl, inr, ⊎_elim}
 use Rattle.sets.proofs.Bits.{rest_less, walk_sub, walk_split, has_some}
-use Rattle.planner.specs.Inner.Memory.{Sub}
 use Rattle.planner.proofs.Whether.{whether_yes, whether_no}
-use Rattle.planner.proofs.IsBook.{beyond_chained, chained_part, part_chained}
+use Rattle.planner.proofs.IsBook.{beyond_chained, part_chained}
 use Rattle.planner.proofs.memory.chained_at.Goals as goal
 
 pub returns-then-b-size : goal.returns-then-b-size
 returns-then-b-size c = beyond_chained _ _ _ c.if-b-size.true c.part_of.ensures
 
-pub returns-then-not-part_of : goal.returns-then-not-part_of
-returns-then-not-part_of c =
-    whether_no (λ x. c.part_of-2.ensures.no (not-true _ c.if-not-part_of.true) (chained_part _ _ _ _ _ c.requires.1 c.below.ensures c.without.ensures x))
-
-pub loop-rest-init : goal.loop-rest-init
-loop-rest-init c = ((λ j t. t), (λ a t. inl t))
-
-pub offset_bounds-before-a : goal.offset_bounds-before-a
-offset_bounds-before-a c = omega (arith, ((let it : (c.first-a.result.0 < 64) × T (has c.loop-rest.rest c.first-a.result.0) = c.first-a.ensures.met c.loop-rest-test.true in it)).0)
-
-pub bounds-before-a : goal.bounds-before-a
-bounds-before-a c =
-    omega (arith, ((let it : (c.first-a.result.0 < 64) × T (has c.loop-rest.rest c.first-a.result.0) = c.first-a.ensures.met c.loop-rest-test.true in it)).0, c.requires.0)
-
 pub returns-then-not-part_of-2 : goal.returns-then-not-part_of-2
 returns-then-not-part_of-2 c =
-    whether_no (λ x. c.part_of-in-loop-rest.ensures.no (not-true _ c.if-not-part_of-2.true) (x.joins c.first-a.result.0 (c.loop-rest.invariant.0 _ ((let it : (c.first-a.result.0 < 64) × T (has c.loop-rest.rest c.first-a.result.0) = c.first-a.ensures.met c.loop-rest-test.true in it)).1)))
+    let met = c.first-a.ensures.met c.loop-rest-test.true in
+    whether_no (λ x. c.part_of-in-loop-rest.ensures.no c.if-not-part_of-2.true (x.joins c.first-a.result.0 (c.loop-rest.invariant.0 _ met.1)))
 
 pub loop-rest-smaller : goal.loop-rest-smaller
 loop-rest-smaller c =
@@ -42,12 +20,12 @@ pub loop-rest-preserved : goal.loop-rest-preserved
 loop-rest-preserved c =
     let inv = c.loop-rest.invariant in
     let w = c.rest-rest.ensures c.first-a.result.0 c.first-a.ensures in
-    let sub = c.part_of-in-loop-rest.ensures.yes (not-false _ c.if-not-part_of-2.false) in (
+    let sub = c.part_of-in-loop-rest.ensures.yes c.if-not-part_of-2.false in (
       (λ j t. inv.0 j (walk_sub _ _ _ w j t)),
       (λ a t. ⊎_elim (λ u. ⊎_elim (λ e. inr (rw e sub)) (λ v. inl v) (walk_split _ _ _ w a u)) (λ u. inr u) (inv.1 a t)),
     )
 
 pub returns : goal.returns
 returns c =
-    whether_yes (part_chained _ _ _ _ _ c.requires.1 c.below.ensures c.without.ensures c.if-b-size.false (c.part_of-2.ensures.yes (not-false _ c.if-not-part_of.false))
+    whether_yes (part_chained _ _ _ _ _ c.requires.1 c.below.ensures c.without.ensures c.if-b-size.false (c.part_of-2.ensures.yes c.if-not-part_of.false)
     (λ a t. ⊎_elim (λ u. absurd (has_some _ a u c.loop-rest-test.false)) (λ u. u) (c.loop-rest.invariant.1 a t)))

@@ -1,17 +1,11 @@
 -- `planner::memory::chained_at` meets its contract. The invariant: what precedes the jobs passed is in the set.
-use mathlib.Core.Logic.{◌⊎◌, inl, inr, ⊎_elim}
-use Prim.Native.Nat.{ℕ, ◌<◌}
-use native.Mathlib.Omega.{arith}
-use borrow.Author.Rules.{rules}
-use borrow.Author.Tests.{not-true, not-false}
+use mathlib.Core.Logic.{◌⊎◌}
+use Prim.Native.Nat.{ℕ}
 use lib.Dec.{T}
 use lib.ListN.{get_or}
 use Rattle.schedule.specs.Count.{count}
 use Rattle.sets.specs.Sets.{has}
-use Rattle.sets.proofs.Bits.{rest_less, walk_sub, walk_split, has_some}
 use Rattle.planner.specs.Inner.Memory.{Sub}
-use Rattle.planner.proofs.Whether.{whether_yes, whether_no}
-use Rattle.planner.proofs.IsBook.{beyond_chained, chained_part, part_chained}
 use Rattle.planner.proofs.memory.chained_at.Given as goal
 
 abbrev pub invariant-loop-rest : goal.invariant-loop-rest

@@ -1,12 +1,7 @@
 -- `planner::memory::limited` meets its contract. The invariant: the entries passed are in their limit.
-use mathlib.Core.Logic.{⊎_elim}
 use Prim.Native.Nat.{ℕ, ◌+◌, ◌-◌, ◌≤◌, ◌<◌}
-use native.Mathlib.Omega.{arith}
-use borrow.Author.Count.{below_none, below_more}
-use borrow.Author.Rules.{rules}
 use lib.ListN.{get_or}
-use Rattle.planner.proofs.Whether.{whether_yes, whether_no}
-use Rattle.planner.proofs.IsBook.{Kept, limits_part, limits_at}
+use Rattle.planner.proofs.IsBook.{Kept}
 use Rattle.planner.proofs.memory.limited.Given as goal
 
 abbrev pub invariant-loop-i : goal.invariant-loop-i

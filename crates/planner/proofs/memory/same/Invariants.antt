@@ -1,13 +1,7 @@
 -- `planner::memory::same` meets its contract. The invariant: the entries passed are the same.
-use mathlib.Core.List.{List}
-use mathlib.Core.Path.{◌≡◌, ap, sym, ◌∙◌}
+use mathlib.Core.Path.{◌≡◌}
 use Prim.Native.Nat.{ℕ, ◌-◌, ◌≤◌, ◌<◌}
-use native.Mathlib.Omega.{arith}
-use borrow.Author.Count.{below_none, below_more}
-use borrow.Author.Rules.{rules}
 use lib.ListN.{get_or}
-use lib.Seq.{ext_get_or}
-use Rattle.planner.proofs.Whether.{whether_yes, whether_no}
 use Rattle.planner.proofs.memory.same.Given as goal
 
 abbrev pub invariant-loop-i : goal.invariant-loop-i

@@ -1,6 +1,4 @@
 use mathlib.Core.Path.{◌≡◌, refl, sym, ap, ◌∙◌}
-use native.Mathlib.Omega.{arith}
-use borrow.Author.Rules.{rules}
 use lib.ListN.{length}
 use Rattle.book.specs.Told.{cores, part}
 use Rattle.planner.specs.Inner.Tighten.{Tightens}
@@ -9,28 +7,27 @@ use Rattle.planner.proofs.Whether.{whether_no, whether_as}
 use Rattle.planner.proofs.IsBook.{copied_ready, copied_tight, steady_yes, steady_same, steady_none}
 use Rattle.planner.proofs.memory.steady.Goals as goal
 
-pub hand_over-requires : goal.hand_over-requires
-hand_over-requires c = (omega (arith, ap length c.starts.ensures, c.requires.0), search rules)
-
-pub hand_over-requires-2 : goal.hand_over-requires-2
-hand_over-requires-2 c = (omega (arith, ap length c.latest.ensures, c.requires.2.long), search rules)
-
 pub tighten-requires : goal.tighten-requires
 tighten-requires c =
-    copied_ready _ _ _ _ _ _ _ ((let it : c.hand_over.new.1.1.0 ≡ part 1 c.args.times.now = let e = c.starts.ensures in hands_all 64 _ _ _ (ap length e ∙ c.requires.0) refl c.hand_over.ensures ∙ e in it)) ((let it : c.hand_over-2.new.1.1.0 ≡ part 65 c.args.times.now = let e = c.latest.ensures in hands_all 64 _ _ _ (ap length e ∙ c.requires.2.long) refl c.hand_over-2.ensures ∙ e in it)) c.none.ensures c.requires.1 c.requires.2
-
-pub same-requires : goal.same-requires
-same-requires c =
-    (ap length c.latest-then-tighten.ensures ∙ c.requires.2.long, c.tighten.ensures.length)
+    let start : c.hand_over.new.row ≡ part 1 c.args.times.now = hands_all 64 _ _ _ (ap length c.starts.ensures ∙ c.requires.0) refl c.hand_over.ensures ∙ c.starts.ensures in
+    let due : c.hand_over-2.new.row ≡ part 65 c.args.times.now = hands_all 64 _ _ _ (ap length c.latest.ensures ∙ c.requires.2.long) refl c.hand_over-2.ensures ∙ c.latest.ensures in
+    copied_ready _ _ _ _ _ _ _ start due c.none.ensures c.requires.1 c.requires.2
 
 pub returns-then-tighten : goal.returns-then-tighten
 returns-then-tighten c =
-    let fits = c.if-tighten.true in
+    let start : c.hand_over.new.row ≡ part 1 c.args.times.now = hands_all 64 _ _ _ (ap length c.starts.ensures ∙ c.requires.0) refl c.hand_over.ensures ∙ c.starts.ensures in
+    let due : c.hand_over-2.new.row ≡ part 65 c.args.times.now = hands_all 64 _ _ _ (ap length c.latest.ensures ∙ c.requires.2.long) refl c.hand_over-2.ensures ∙ c.latest.ensures in
+    let tight : Tightens cores c.args.size (part 1 c.args.times.now) c.args.before.now (part 65 c.args.times.now) c.tighten.new.row c.tighten.result =
+    copied_tight _ _ _ _ _ _ _ start due c.none.ensures c.requires.1 _ _ c.tighten.ensures in
     whether_as
-    (λ e. steady_yes _ _ _ _ _ _ c.requires.2 ((let it : Tightens cores c.args.size (part 1 c.args.times.now) c.args.before.now (part 65 c.args.times.now) c.tighten.new.1.1.1.1.0 c.tighten.result = copied_tight _ _ _ _ _ _ _ ((let it : c.hand_over.new.1.1.0 ≡ part 1 c.args.times.now = let e = c.starts.ensures in hands_all 64 _ _ _ (ap length e ∙ c.requires.0) refl c.hand_over.ensures ∙ e in it)) ((let it : c.hand_over-2.new.1.1.0 ≡ part 65 c.args.times.now = let e = c.latest.ensures in hands_all 64 _ _ _ (ap length e ∙ c.requires.2.long) refl c.hand_over-2.ensures ∙ e in it)) c.none.ensures c.requires.1 _ _ c.tighten.ensures in it)) fits (sym c.latest-then-tighten.ensures ∙ e))
-    (λ x. c.latest-then-tighten.ensures ∙ steady_same _ _ _ _ _ _ c.requires.2 ((let it : Tightens cores c.args.size (part 1 c.args.times.now) c.args.before.now (part 65 c.args.times.now) c.tighten.new.1.1.1.1.0 c.tighten.result = copied_tight _ _ _ _ _ _ _ ((let it : c.hand_over.new.1.1.0 ≡ part 1 c.args.times.now = let e = c.starts.ensures in hands_all 64 _ _ _ (ap length e ∙ c.requires.0) refl c.hand_over.ensures ∙ e in it)) ((let it : c.hand_over-2.new.1.1.0 ≡ part 65 c.args.times.now = let e = c.latest.ensures in hands_all 64 _ _ _ (ap length e ∙ c.requires.2.long) refl c.hand_over-2.ensures ∙ e in it)) c.none.ensures c.requires.1 _ _ c.tighten.ensures in it)) fits x)
+    (λ e. steady_yes _ _ _ _ _ _ c.requires.2 tight c.if-tighten.true (sym c.latest-then-tighten.ensures ∙ e))
+    (λ x. c.latest-then-tighten.ensures ∙ steady_same _ _ _ _ _ _ c.requires.2 tight c.if-tighten.true x)
     c.same.ensures
 
 pub returns : goal.returns
 returns c =
-    whether_no (steady_none _ _ _ _ _ _ c.requires.2 ((let it : Tightens cores c.args.size (part 1 c.args.times.now) c.args.before.now (part 65 c.args.times.now) c.tighten.new.1.1.1.1.0 c.tighten.result = copied_tight _ _ _ _ _ _ _ ((let it : c.hand_over.new.1.1.0 ≡ part 1 c.args.times.now = let e = c.starts.ensures in hands_all 64 _ _ _ (ap length e ∙ c.requires.0) refl c.hand_over.ensures ∙ e in it)) ((let it : c.hand_over-2.new.1.1.0 ≡ part 65 c.args.times.now = let e = c.latest.ensures in hands_all 64 _ _ _ (ap length e ∙ c.requires.2.long) refl c.hand_over-2.ensures ∙ e in it)) c.none.ensures c.requires.1 _ _ c.tighten.ensures in it)) c.if-tighten.false)
+    let start : c.hand_over.new.row ≡ part 1 c.args.times.now = hands_all 64 _ _ _ (ap length c.starts.ensures ∙ c.requires.0) refl c.hand_over.ensures ∙ c.starts.ensures in
+    let due : c.hand_over-2.new.row ≡ part 65 c.args.times.now = hands_all 64 _ _ _ (ap length c.latest.ensures ∙ c.requires.2.long) refl c.hand_over-2.ensures ∙ c.latest.ensures in
+    let tight : Tightens cores c.args.size (part 1 c.args.times.now) c.args.before.now (part 65 c.args.times.now) c.tighten.new.row c.tighten.result =
+    copied_tight _ _ _ _ _ _ _ start due c.none.ensures c.requires.1 _ _ c.tighten.ensures in
+    whether_no (steady_none _ _ _ _ _ _ c.requires.2 tight c.if-tighten.false)

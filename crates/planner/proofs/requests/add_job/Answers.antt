@@ -1,7 +1,6 @@
 use mathlib.Core.Path.{refl}
 use mathlib.Core.Logic.{inl, inr}
 use native.Mathlib.Omega.{arith}
-use borrow.Author.Rules.{rules}
 use Rattle.refusal.specs.Table.{refused, Clear}
 use Rattle.refusal.proofs.Table.{then_table}
 use Rattle.planner.specs.Requests.{times_checks}
@@ -20,20 +19,23 @@ returns-then-number-ne0 c = (
 
 pub settle-requires : goal.settle-requires
 settle-requires c =
-    job_ready c.requires.0 _ _ c.requires.1 _ _ _ c.none.ensures _ c.wide-new.ensures.0 (omega arith) ((let it : let a = c.args in Clear (times_checks 0 a.start a.deadline) = (c.fault-number.ensures 0).none c.if-number-ne0.false in it))
+    let clear : Clear (times_checks 0 c.args.start c.args.deadline) = (c.fault-number.ensures 0).none c.if-number-ne0.false in
+    job_ready c.requires.0 _ _ c.requires.1 _ _ _ c.none.ensures _ c.wide-new.ensures.0 (omega arith) clear
 
 pub returns-then-settle : goal.returns-then-settle
 returns-then-settle c =
-    λ L t.
     let w = c.wide-new.ensures.0 in
-    then_table ((λ f. omega (arith, size_is L _ t, w)), (let it : let a = c.args in Clear (times_checks 0 a.start a.deadline) = (c.fault-number.ensures 0).none c.if-number-ne0.false in it))
-    (job_fits L _ _ t _ _ _ c.none.ensures _ w (omega arith) ((let it : let a = c.args in Clear (times_checks 0 a.start a.deadline) = (c.fault-number.ensures 0).none c.if-number-ne0.false in it)) _ _ c.settle.ensures c.if-settle.true)
+    let clear : Clear (times_checks 0 c.args.start c.args.deadline) = (c.fault-number.ensures 0).none c.if-number-ne0.false in
+    λ L t.
+    then_table ((λ f. omega (arith, size_is L _ t, w)), clear)
+    (job_fits L _ _ t _ _ _ c.none.ensures _ w (omega arith) clear _ _ c.settle.ensures c.if-settle.true)
 
 pub returns : goal.returns
-returns c = (
-  omega arith,
-  λ L t.
-      let w = c.wide-new.ensures.0 in
-      then_table ((λ f. omega (arith, size_is L _ t, w)), (let it : let a = c.args in Clear (times_checks 0 a.start a.deadline) = (c.fault-number.ensures 0).none c.if-number-ne0.false in it))
-      (job_none L _ _ t _ _ _ c.none.ensures _ w (omega arith) ((let it : let a = c.args in Clear (times_checks 0 a.start a.deadline) = (c.fault-number.ensures 0).none c.if-number-ne0.false in it)) _ _ c.settle.ensures c.if-settle.false),
-)
+returns c =
+    let w = c.wide-new.ensures.0 in
+    let clear : Clear (times_checks 0 c.args.start c.args.deadline) = (c.fault-number.ensures 0).none c.if-number-ne0.false in (
+      omega arith,
+      λ L t.
+          then_table ((λ f. omega (arith, size_is L _ t, w)), clear)
+          (job_none L _ _ t _ _ _ c.none.ensures _ w (omega arith) clear _ _ c.settle.ensures c.if-settle.false),
+    )

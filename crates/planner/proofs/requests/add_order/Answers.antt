@@ -1,17 +1,10 @@
 use mathlib.Core.Path.{refl, sym, ◌∙◌}
 use mathlib.Core.Logic.{inl, inr}
 use native.Mathlib.Omega.{arith}
-use Prim.Native.Nat.{◌+◌}
-use borrow.Author.Rules.{rules}
-use lib.ListN.{get_or}
-use Rattle.schedule.specs.Listed.{Listed, with_order}
 use Rattle.refusal.specs.Table.{refused}
 use Rattle.refusal.proofs.Table.{then_table}
-use Rattle.book.specs.Told.{book_in, Told}
-use Rattle.planner.specs.declared.requests.Request.TheVariants.{Before}
-use Rattle.planner.specs.Requests.{Sound}
-use Rattle.planner.proofs.Growing.{Grows, false_T, true_T, size_is, order_held, order_back, order_free, followed_told, told_last}
-use Rattle.planner.proofs.Posed.{posed, order_posed, times_ready, times_fit, times_none}
+use Rattle.planner.proofs.Growing.{false_T, true_T, size_is, order_held, order_back, order_free, followed_told, told_last}
+use Rattle.planner.proofs.Posed.{order_posed, times_ready, times_fit, times_none}
 use Rattle.planner.proofs.requests.add_order.Goals as goal
 
 pub returns-then-a-size : goal.returns-then-a-size
@@ -46,36 +39,44 @@ returns-then-has c = (
 
 pub returns-then-has-2 : goal.returns-then-has-2
 returns-then-has-2 c =
-    λ L t.
     let w = c.wide-size.ensures.0 in
-    then_table ((let w = c.wide-size.ensures.0 in (order_held L _ t _ _ (omega (arith, w)) (omega (arith, w)), order_free L _ t _ _ (omega (arith, w)) (omega (arith, w)) c.if-a-b.false (false_T _ (sym c.has.ensures ∙ c.if-has.false))))) (told_last _ 0 0 _ _ refl (followed_told L _ t _ _ (omega (arith, w)) (omega (arith, w)) (true_T _ (sym c.has-2.ensures ∙ c.if-has-2.true))))
+    let back = false_T _ (sym c.has.ensures ∙ c.if-has.false) in
+    λ L t.
+    let held = order_held L _ t c.args.first.0 c.args.second.0 (omega (arith, w)) (omega (arith, w)) in
+    let free = order_free L _ t c.args.first.0 c.args.second.0 (omega (arith, w)) (omega (arith, w)) c.if-a-b.false back in
+    then_table (held, free)
+    (told_last _ 0 0 _ _ refl (followed_told L _ t _ _ (omega (arith, w)) (omega (arith, w)) (true_T _ (sym c.has-2.ensures ∙ c.if-has-2.true))))
 
 pub settle-requires : goal.settle-requires
 settle-requires c =
     let w = c.wide-size.ensures.0 in
     let f = c.requires.1.shaped.few in
-    times_ready c.requires.0 _ _ c.requires.1 _ _ _ _ _ w (omega (arith, f, w)) (omega (arith, f, w)) ((order_posed c.requires.0 _ _ c.requires.1 _ _ _ c.wide-size.ensures.0 (omega arith) (omega arith) c.with.ensures c.if-a-b.false (false_T _ (sym c.has.ensures ∙ c.if-has.false))))
-
-pub link-requires : goal.link-requires
-link-requires c =
-    let s = c.requires.1.shaped in
-    let w = c.wide-size.ensures.0 in
-    (s.befores, omega (arith, s.few, w), omega arith, (λ y l t. omega (arith, (s.before_rest _ y t).1, w)))
+    let back = false_T _ (sym c.has.ensures ∙ c.if-has.false) in
+    times_ready c.requires.0 _ _ c.requires.1 _ _ _ _ _ w (omega (arith, f, w)) (omega (arith, f, w))
+    (order_posed c.requires.0 _ _ c.requires.1 _ _ _ w (omega arith) (omega arith) c.with.ensures c.if-a-b.false back)
 
 pub returns-then-settle : goal.returns-then-settle
 returns-then-settle c =
-    λ L t.
     let w = c.wide-size.ensures.0 in
+    let back = false_T _ (sym c.has.ensures ∙ c.if-has.false) in
+    λ L t.
     let f = t.shaped.few in
-    then_table ((let w = c.wide-size.ensures.0 in (order_held L _ t _ _ (omega (arith, w)) (omega (arith, w)), order_free L _ t _ _ (omega (arith, w)) (omega (arith, w)) c.if-a-b.false (false_T _ (sym c.has.ensures ∙ c.if-has.false)))))
-    (times_fit L _ _ t _ _ _ _ _ w (omega (arith, f, w)) (omega (arith, f, w)) ((order_posed L _ _ t _ _ _ c.wide-size.ensures.0 (omega arith) (omega arith) c.with.ensures c.if-a-b.false (false_T _ (sym c.has.ensures ∙ c.if-has.false)))) _ _ c.settle.ensures _ c.link.ensures c.if-settle.true)
+    let held = order_held L _ t c.args.first.0 c.args.second.0 (omega (arith, w)) (omega (arith, w)) in
+    let free = order_free L _ t c.args.first.0 c.args.second.0 (omega (arith, w)) (omega (arith, w)) c.if-a-b.false back in
+    then_table (held, free)
+    (times_fit L _ _ t _ _ _ _ _ w (omega (arith, f, w)) (omega (arith, f, w))
+    (order_posed L _ _ t _ _ _ w (omega arith) (omega arith) c.with.ensures c.if-a-b.false back) _ _ c.settle.ensures _ c.link.ensures c.if-settle.true)
 
 pub returns : goal.returns
-returns c = (
-  omega arith,
-  λ L t.
-      let w = c.wide-size.ensures.0 in
-      let f = t.shaped.few in
-      then_table ((let w = c.wide-size.ensures.0 in (order_held L _ t _ _ (omega (arith, w)) (omega (arith, w)), order_free L _ t _ _ (omega (arith, w)) (omega (arith, w)) c.if-a-b.false (false_T _ (sym c.has.ensures ∙ c.if-has.false)))))
-      (times_none L _ _ t _ _ _ _ _ w (omega (arith, f, w)) (omega (arith, f, w)) ((order_posed L _ _ t _ _ _ c.wide-size.ensures.0 (omega arith) (omega arith) c.with.ensures c.if-a-b.false (false_T _ (sym c.has.ensures ∙ c.if-has.false)))) _ _ c.settle.ensures c.if-settle.false),
-)
+returns c =
+    let w = c.wide-size.ensures.0 in
+    let back = false_T _ (sym c.has.ensures ∙ c.if-has.false) in (
+      omega arith,
+      λ L t.
+          let f = t.shaped.few in
+          let held = order_held L _ t c.args.first.0 c.args.second.0 (omega (arith, w)) (omega (arith, w)) in
+          let free = order_free L _ t c.args.first.0 c.args.second.0 (omega (arith, w)) (omega (arith, w)) c.if-a-b.false back in
+          then_table (held, free)
+          (times_none L _ _ t _ _ _ _ _ w (omega (arith, f, w)) (omega (arith, f, w))
+          (order_posed L _ _ t _ _ _ w (omega arith) (omega arith) c.with.ensures c.if-a-b.false back) _ _ c.settle.ensures c.if-settle.false),
+    )

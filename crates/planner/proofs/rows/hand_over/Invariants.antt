@@ -1,10 +1,6 @@
 -- `planner::rows::hand_over` meets its contract. The invariant: the first i times are handed over.
 use Prim.Native.Nat.{◌-◌, ◌≤◌}
-use mathlib.Core.Path.{◌≡◌}
-use native.Mathlib.Omega.{arith}
-use borrow.Author.Rules.{rules}
 use Rattle.planner.specs.Inner.Rows.{Hands}
-use Rattle.planner.proofs.HandedOver.{hands_none, hands_more}
 use Rattle.planner.proofs.rows.hand_over.Given as goal
 
 abbrev pub invariant-loop-i : goal.invariant-loop-i

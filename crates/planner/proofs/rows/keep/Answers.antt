@@ -1,12 +1,8 @@
-use Prim.Native.Nat.{◌-◌, ◌≤◌}
 use mathlib.Core.Path.{◌≡◌}
 use native.Mathlib.Omega.{arith}
 use borrow.Author.Rules.{rules}
-use Rattle.planner.proofs.HandedOver.{Keeping, keeping_none, keeping_more, keeping_all}
+use Rattle.planner.proofs.HandedOver.{keeping_more, keeping_all}
 use Rattle.planner.proofs.rows.keep.Goals as goal
-
-pub loop-i-init : goal.loop-i-init
-loop-i-init c = (search rules, keeping_none _ _)
 
 pub loop-i-preserved : goal.loop-i-preserved
 loop-i-preserved c = (search rules, keeping_more _ _ _ c.requires.1 _ (search rules) c.loop-i.invariant.1)

@@ -1,9 +1,6 @@
 -- `planner::rows::keep` meets its contract. The invariant: the first i times are written.
 use Prim.Native.Nat.{◌-◌, ◌≤◌}
-use mathlib.Core.Path.{◌≡◌}
-use native.Mathlib.Omega.{arith}
-use borrow.Author.Rules.{rules}
-use Rattle.planner.proofs.HandedOver.{Keeping, keeping_none, keeping_more, keeping_all}
+use Rattle.planner.proofs.HandedOver.{Keeping}
 use Rattle.planner.proofs.rows.keep.Given as goal
 
 abbrev pub invariant-loop-i : goal.invariant-loop-i
