@@ -1,17 +1,8 @@
 -- `jobfile::file::read_file` meets its contract. The invariant: the numbers of the records read are stored, and what is read from here on is the rest.
-use mathlib.Core.Bool.{not}
-use mathlib.Core.Logic.{⊎_elim}
 use Prim.Native.Nat.{◌-◌}
-use native.Mathlib.Omega.{arith}
-use borrow.Author.Rules.{rules}
-use lib.Dec.{T}
 use lib.ListN.{length}
 use Rattle.book.specs.Told.{book_in}
-use Rattle.refusal.specs.Says.{number_of, value_of}
-use Rattle.jobfile.specs.Reader.{after_read, halts, ReadsRecord}
 use Rattle.jobfile.specs.Inner.File.{Underway}
-use Rattle.jobfile.proofs.Events.{tells_halted}
-use Rattle.jobfile.proofs.Single.{request_told, underway_begins, underway_ends, underway_less, underway_room, underway_more}
 use Rattle.jobfile.proofs.file.read_file.Given as goal
 
 abbrev pub invariant-loop-answer : goal.invariant-loop-answer

@@ -1,15 +1,7 @@
 -- `jobfile::writer::pairs` meets its contract. The invariant: the sizes of the sets passed.
 use mathlib.Core.Path.{◌≡◌}
-use Prim.Native.Nat.{◌+◌, ◌*◌, ◌-◌, ◌≤◌}
-use native.Mathlib.Numerals.{add-one}
-use native.Mathlib.Omega.{arith}
-use lib.ListN.{get_or}
-use Rattle.schedule.specs.Count.{count}
-use Rattle.schedule.specs.Theory.Sum.{sum}
-use Rattle.schedule.proofs.Counting.{count_bound}
-use Rattle.sets.specs.Sets.{has}
+use Prim.Native.Nat.{◌*◌, ◌-◌, ◌≤◌}
 use Rattle.jobfile.specs.Inner.Writer.{pairs_in}
-use borrow.Author.Rules.{rules}
 use Rattle.jobfile.proofs.writer.pairs.Given as goal
 
 abbrev pub invariant-loop-b : goal.invariant-loop-b

@@ -1,10 +1,5 @@
-use mathlib.Core.Path.{◌≡◌}
-use Prim.Native.Nat.{◌-◌, ◌≤◌}
 use native.Mathlib.Nat.{zero-add}
-use native.Mathlib.Omega.{arith}
-use Rattle.jobfile.specs.Writer.{gather, bytes_of_all, job_record}
-use Rattle.jobfile.specs.Inner.Writer.{Continues}
-use Rattle.jobfile.proofs.Bytes.{all_one, continues_length, continues_none, continues_more, continues_room, room_one}
+use Rattle.jobfile.proofs.Bytes.{all_one, continues_none, continues_more, continues_room, room_one}
 use borrow.Author.Rules.{rules}
 use Rattle.jobfile.proofs.writer.put_jobs.Goals as goal
 
@@ -18,11 +13,3 @@ put-next-requires c =
 pub loop-i-preserved : goal.loop-i-preserved
 loop-i-preserved c =
     (search rules, continues_more _ _ _ _ _ _ _ _ c.loop-i.invariant.1 (rw (all_one _) c.put-next.ensures))
-
-pub shape_of-out : goal.shape_of-out
-shape_of-out c = continues_length _ _ _ _ _ c.loop-i.invariant.1
-
-pub returns : goal.returns
-returns c =
-    let e : c.loop-i.i ≡ c.args.size = omega arith in
-    rw (← e) c.loop-i.invariant.1

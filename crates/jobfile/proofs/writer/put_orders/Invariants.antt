@@ -1,11 +1,7 @@
 -- `jobfile::writer::put_orders` meets its contract. The invariant: the orders of the jobs passed are stored.
-use mathlib.Core.Path.{◌≡◌}
 use Prim.Native.Nat.{◌-◌, ◌≤◌}
-use native.Mathlib.Omega.{arith}
-use borrow.Author.Rules.{rules}
 use Rattle.jobfile.specs.Writer.{gather, bytes_of_all, follower_records}
 use Rattle.jobfile.specs.Inner.Writer.{Continues}
-use Rattle.jobfile.proofs.Bytes.{continues_length, continues_none, continues_more, continues_room}
 use Rattle.jobfile.proofs.writer.put_orders.Given as goal
 
 abbrev pub invariant-loop-a : goal.invariant-loop-a
