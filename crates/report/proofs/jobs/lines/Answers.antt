@@ -1,13 +1,5 @@
-use mathlib.Core.Path.{◌≡◌}
-use Prim.Native.Nat.{◌-◌, ◌≤◌}
-use native.Mathlib.Omega.{arith}
 use borrow.Author.Rules.{rules}
-use lib.ListN.{get_or}
-use Rattle.text.specs.Text.{each}
-use Rattle.text.specs.Put.{Puts}
-use Rattle.text.proofs.Putting.{puts_length}
 use Rattle.text.proofs.Each.{each_none, each_next}
-use Rattle.report.specs.Inner.Ends.{ends_in, row_text}
 use Rattle.report.proofs.jobs.lines.Goals as goal
 
 pub loop-i-init : goal.loop-i-init

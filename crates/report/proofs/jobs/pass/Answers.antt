@@ -1,8 +1,5 @@
-use mathlib.Core.Path.{◌≡◌, refl}
-use Prim.Native.Nat.{◌-◌, ◌≤◌, ◌<◌}
-use native.Mathlib.Omega.{arith}
+use mathlib.Core.Path.{refl}
 use borrow.Author.Rules.{rules}
-use lib.ListN.{length, get_or}
 use Rattle.report.specs.Inner.Ends.{passed}
 use Rattle.report.proofs.Ends.{passed_next}
 use Rattle.report.proofs.jobs.pass.Goals as goal

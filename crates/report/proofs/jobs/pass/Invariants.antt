@@ -1,11 +1,8 @@
 -- `jobs::pass` meets its contract. The invariant: the bytes passed have their ends.
-use mathlib.Core.Path.{◌≡◌, refl}
-use Prim.Native.Nat.{◌-◌, ◌≤◌, ◌<◌}
-use native.Mathlib.Omega.{arith}
-use borrow.Author.Rules.{rules}
-use lib.ListN.{length, get_or}
+use mathlib.Core.Path.{◌≡◌}
+use Prim.Native.Nat.{◌-◌, ◌≤◌}
+use lib.ListN.{length}
 use Rattle.report.specs.Inner.Ends.{passed}
-use Rattle.report.proofs.Ends.{passed_next}
 use Rattle.report.proofs.jobs.pass.Given as goal
 
 abbrev pub invariant-loop-i : goal.invariant-loop-i
