@@ -16,6 +16,7 @@ ghost use Rattle.jobfile.specs.Reader.{ReadsRecord, after_read};
 ghost use Rattle.jobfile.specs.Writer.{WritesBook};
 
 use book::{Before, Times};
+use planner::Request;
 
 #[unsafe(no_mangle)]
 pub extern "C" fn firmware_open(times: &mut Times, before: &mut Before)

@@ -1,4 +1,3 @@
-use borrow.Author.Rules.{rules}
 use Rattle.book.specs.Told.{book_in}
 use Rattle.jobfile.specs.Reader.{ReadsRecord, after_read}
 use Rattle.jobfile.proofs.Events.{tells_told}
@@ -8,4 +7,4 @@ pub returns : goal.returns
 returns c =
     let a = c.args in
     rw (c.number.ensures, c.value.ensures)
-    (tells_told (λ n v. ReadsRecord (book_in a.times.now a.before.now) a.file.now a.at.now (after_read (book_in c.read-event.new.0 c.read-event.new.1.0) c.read-event.new.1.1.1.0 n v)) c.read-event.result c.read-event.ensures)
+    (tells_told (λ n v. ReadsRecord (book_in a.times.now a.before.now) a.file.now a.at.now (after_read (book_in c.read-event.new.times c.read-event.new.before) c.read-event.new.at n v)) c.read-event.result c.read-event.ensures)

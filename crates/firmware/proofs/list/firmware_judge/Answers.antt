@@ -1,4 +1,3 @@
-use borrow.Author.Rules.{rules}
 use Rattle.refusal.proofs.Says.{says_told}
 use Rattle.planner.specs.List.{Judges, judged}
 use Rattle.firmware.proofs.list.firmware_judge.Goals as goal
@@ -7,4 +6,4 @@ pub returns : goal.returns
 returns c =
     let a = c.args in
     rw (c.number.ensures, c.value.ensures)
-    (says_told (λ n v. Judges a.starts.now a.deadlines.now a.pairs.now a.latest.now (judged c.judge-told.new.1.1.1.0 n v)) c.judge-told.result c.judge-told.ensures)
+    (says_told (λ n v. Judges a.starts.now a.deadlines.now a.pairs.now a.latest.now (judged c.judge-told.new.latest n v)) c.judge-told.result c.judge-told.ensures)

@@ -1,4 +1,3 @@
-use borrow.Author.Rules.{rules}
 use Rattle.refusal.proofs.Says.{says_told}
 use Rattle.planner.specs.Late.{Shortens}
 use Rattle.firmware.proofs.list.firmware_shortest.Goals as goal

@@ -1,4 +1,3 @@
-use borrow.Author.Rules.{rules}
 use Rattle.refusal.proofs.Says.{says_told}
 use Rattle.book.specs.Told.{book_in}
 use Rattle.plan.specs.Plan.{Plans}
@@ -8,4 +7,4 @@ pub returns : goal.returns
 returns c =
     let a = c.args in
     rw (c.number.ensures, c.value.ensures)
-    (says_told (Plans (book_in a.times.now a.before.now) a.out.now c.plan-told.new.1.1.0) c.plan-told.result c.plan-told.ensures)
+    (says_told (Plans (book_in a.times.now a.before.now) a.out.now c.plan-told.new.out) c.plan-told.result c.plan-told.ensures)
