@@ -3,40 +3,37 @@
 #![tactic(auto)]
 
 use keying::{Keyed, Mistake, Slip};
-use std::io;
 
 // One byte more than the longest text, to tell a longer one.
 fn main(rt: HostRuntime) {
     let mut text = [0u8; 262145];
     let mut file = [0u8; 24576];
-    let n = stream::read_full(&rt, &mut text);
+    let (n, came) = stream::read_full(&rt, &mut text);
     if n == 262145 {
         let _ = eprintln!(&rt; "text over 262144 bytes");
         return;
     }
-    if !stream::ended(&rt) {
+    if !stream::ended(&rt, came) {
         return;
     }
     match keying::key(&text[..n], &mut file) {
         Keyed::Written(size) => stream::write_whole(&rt, &file[..size]),
-        Keyed::Mistake(mistake) => {
-            let _ = tell(&rt, &text[..n], mistake);
-        }
+        Keyed::Mistake(mistake) => tell(&rt, &text[..n], mistake),
     }
 }
 
-fn tell(rt: &HostRuntime, text: &[u8], mistake: Mistake) -> io::Result<()> {
+fn tell(rt: &HostRuntime, text: &[u8], mistake: Mistake) {
     let size = mistake.size;
-    eprint!(rt;
+    let _ = eprint!(rt;
         "line {}, entry {}: {}",
         mistake.line,
         mistake.entry,
         name(mistake.slip)
-    )?;
+    );
     if size > 0 {
-        word(rt, text, mistake.start, size)?;
+        word(rt, text, mistake.start, size);
     }
-    eprintln!(rt; "")
+    say(rt, b"\n");
 }
 
 fn name(slip: Slip) -> &'static str {
@@ -52,17 +49,22 @@ fn name(slip: Slip) -> &'static str {
 }
 
 // The word in quotes, cut after 32 bytes.
-fn word(rt: &HostRuntime, text: &[u8], start: usize, size: usize) -> io::Result<()> {
+fn word(rt: &HostRuntime, text: &[u8], start: usize, size: usize) {
     let mut shown = [0u8; 32];
     spell(&mut shown, text, start);
-    let mut told = rt.stderr();
-    told.write_all(b" '")?;
+    say(rt, b" '");
     if size > 32 {
-        told.write_all(&shown)?;
-        return told.write_all(b"..'");
+        say(rt, &shown);
+        say(rt, b"..'");
+        return;
     }
-    told.write_all(&shown[..size])?;
-    told.write_all(b"'")
+    say(rt, &shown[..size]);
+    say(rt, b"'");
+}
+
+// Whether they came through is not asked: there is nowhere else to say it.
+fn say(rt: &HostRuntime, bytes: &[u8]) {
+    let _ = rt.stderr().write_all(bytes);
 }
 
 // The bytes of the text from a place on.

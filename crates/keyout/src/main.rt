@@ -8,18 +8,18 @@ use refusal::Answer;
 fn main(rt: HostRuntime) {
     let mut file = [0u8; 24577];
     let mut text = [0u8; 61440];
-    let n = stream::read_full(&rt, &mut file);
+    let (n, came) = stream::read_full(&rt, &mut file);
     if n < 24577 {
-        if !stream::ended(&rt) {
+        if !stream::ended(&rt, came) {
             return;
         }
     }
     match keying::lines(&file[..n], &mut text) {
         Answer::Accepted(size) => stream::write_whole(&rt, &text[..size]),
-        Answer::Refused(number, value) => tell(&rt, number, value),
+        Answer::Refused(number, value) => tell(&rt, number as u64, value as u64),
     }
 }
 
-fn tell(rt: &HostRuntime, number: u8, value: usize) {
+fn tell(rt: &HostRuntime, number: u64, value: u64) {
     let _ = eprintln!(rt; "refused {number} at {value}");
 }

@@ -5,9 +5,9 @@
 fn main(rt: HostRuntime) {
     // one byte more than a job file may have, so that a longer one is seen
     let mut file = [0u8; 24577];
-    let n = stream::read_full(&rt, &mut file);
+    let (n, came) = stream::read_full(&rt, &mut file);
     if n < 24577 {
-        if !stream::ended(&rt) {
+        if !stream::ended(&rt, came) {
             return;
         }
     }

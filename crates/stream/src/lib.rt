@@ -10,36 +10,33 @@ use std::io::{ErrorKind, Read, Write};
 // The error of a read or a write that would have to wait.
 const EAGAIN: i32 = 11;
 
-// Reads until the buffer is full, the input has ended or a read fails, and says how many bytes came.
-pub fn read_full(rt: &HostRuntime, buf: &mut [u8]) -> usize
-    ensures { result ≤ length buf.new }
+// Reads until the buffer is full, the input has ended or a read fails: how many bytes came, and that failure.
+pub fn read_full(rt: &HostRuntime, buf: &mut [u8]) -> (usize, io::Result<()>)
+    ensures { result.0 ≤ length buf.new }
 {
     let mut input = rt.stdin();
     let mut done: usize = 0;
     for _ in 0..u64::MAX {
         if done == buf.len() {
-            return done;
+            return (done, Ok(()));
         }
         match input.read(&mut buf[done..]) {
-            Ok(0) => return done,
+            Ok(0) => return (done, Ok(())),
             Ok(got) => done += got,
-            Err(error) => {
-                if error.kind() != ErrorKind::Interrupted {
-                    return done;
-                }
-            }
+            Err(error) => return (done, Err(error)),
         }
     }
-    done
+    (done, Ok(()))
 }
 
-// Whether the input has ended, asked after a read came back short: a read that fails is told, and so is one that brings more, since the one before it failed.
-pub fn ended(rt: &HostRuntime) -> bool {
+// Whether the input has ended, asked after a read came back short, with how that read ended: a read that fails is told, and so is one that brings more, since the one before it failed.
+pub fn ended(rt: &HostRuntime, came: io::Result<()>) -> bool {
     let mut one = [0u8; 1];
     match rt.stdin().read(&mut one) {
         Ok(0) => true,
         Ok(_) => {
-            fail(rt, "standard input", io::Error::from_raw_os_error(EAGAIN));
+            let blocked = io::Error::from_raw_os_error(EAGAIN);
+            fail(rt, "standard input", came.err().unwrap_or(blocked));
             false
         }
         Err(error) => {
@@ -79,14 +76,14 @@ fn waits(error: io::Error) -> bool {
 
 // One line on standard error: where, and the system's words for what failed.
 fn fail(rt: &HostRuntime, place: &str, error: io::Error) {
-    if tell(rt, place, error).is_err() {
-        let _ = eprintln!(rt; "{place}: {error}");
-    }
+    let _ = match format!(in rt.alloc(); "{error}") {
+        Ok(text) => tell(rt, place, words_of(text.as_str())),
+        // no memory for the words alone: the library's own text, with the number
+        Err(_) => eprintln!(rt; "{place}: {error}"),
+    };
 }
 
-fn tell(rt: &HostRuntime, place: &str, error: io::Error) -> io::Result<()> {
-    let text = format!(in rt.alloc(); "{error}")?;
-    let words = words_of(text.as_str());
+fn tell(rt: &HostRuntime, place: &str, words: &str) -> io::Result<()> {
     eprintln!(rt; "{place}: {words}")
 }
 
