@@ -1,4 +1,4 @@
-use Rattle.std.proofs.Common.{◌≤◌, length, sym}
+use Rattle.std.proofs.Common.{sym}
 use lib.Seq.{length-take-le}
 use Rattle.keying.proofs.Pages.{lines_within}
 use Rattle.keyout.proofs.main.Goals as goal
