@@ -1,13 +1,12 @@
 -- The empty book.
 -- Assumes nothing.
-use mathlib.Core.Path.{◌≡◌, refl, ap}
-use mathlib.Core.Bool.{false}
-use Prim.Native.Nat.{ℕ, zero, suc, ◌%◌, ◌^◌}
+use mathlib.Core.Path.{◌≡◌, refl}
+use Prim.Native.Nat.{ℕ, zero, suc}
 use native.Mathlib.Omega.{arith}
 use lib.ListN.{get_or, replicate}
 use Rattle.schedule.proofs.Book.{holds_nothing}
 use Rattle.sets.proofs.Bits.{empty_has}
-use Rattle.book.specs.Told.{Book, part, book_in, Told, nothing_listed}
+use Rattle.book.specs.Told.{part, book_in, Told, nothing_listed}
 
 pub zeros : (n i : ℕ) → ◌≡◌ {A = ℕ} (get_or (replicate n 0) i 0) 0
 zeros zero i = refl

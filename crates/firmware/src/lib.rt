@@ -1,4 +1,4 @@
-// The planner for firmware in C and Rust: numbers and lent memory alone. A book lies in memory as two parts, its times and its sets.
+// The planner for firmware in C and Rust: numbers and lent memory alone. A book lies in memory as two parts, its times and its sets, and C lends them apart.
 
 #![tactic(auto)]
 
@@ -6,6 +6,7 @@ mod file;
 mod list;
 mod plans;
 mod requests;
+mod tell;
 
 pub use file::{firmware_read, firmware_write};
 pub use list::{firmware_class, firmware_judge, firmware_lateness, firmware_shortest};

@@ -5,8 +5,7 @@ ghost use Rattle.planner.specs.Late.{Shortens};
 ghost use Rattle.planner.specs.List.{Judges, judged};
 ghost use Rattle.firmware.specs.List.{FindsLateness, class_number};
 
-use planner::Late;
-use refusal::Class;
+use crate::tell::tell;
 
 pub fn firmware_judge(
     starts: &[u16],
@@ -17,9 +16,7 @@ pub fn firmware_judge(
 ) -> u8
     ensures { Judges starts.now deadlines.now pairs.now latest.old (judged latest.new result answer.new) }
 {
-    let told = planner::judge(starts, deadlines, pairs, latest);
-    *answer = refusal::value(told);
-    refusal::number(told)
+    tell(planner::judge(starts, deadlines, pairs, latest), answer)
 }
 
 // A refusal leaves the lateness lent.
@@ -32,43 +29,27 @@ pub fn firmware_lateness(
 ) -> u8
     ensures { FindsLateness starts.now deadlines.now pairs.now lateness.old lateness.new result answer.new }
 {
-    let told = planner::lateness(starts, deadlines, pairs);
-    match told {
-        Late::By(slots) => {
+    match planner::lateness(starts, deadlines, pairs) {
+        Ok(slots) => {
             *lateness = slots;
-            *answer = 0;
-            0
+            tell(Ok(0), answer)
         }
-        Late::Refused(number, value) => {
-            *answer = value;
-            number
-        }
+        Err(refusal) => tell(Err(refusal), answer),
     }
 }
 
 pub fn firmware_shortest(starts: &[u16], deadlines: &[u16], pairs: &[u16], answer: &mut usize) -> u8
     ensures { Shortens starts.now deadlines.now pairs.now result answer.new }
 {
-    let told = planner::shortest(starts, deadlines, pairs);
-    *answer = refusal::value(told);
-    refusal::number(told)
+    tell(planner::shortest(starts, deadlines, pairs), answer)
 }
 
+// 0 for a number that is of no class, as C is told it.
 pub fn firmware_class(refusal: u8) -> u8
     ensures { result ≡ class_number (class_of refusal) }
 {
-    number(refusal::class_of(refusal))
-}
-
-// A class as a number.
-fn number(class: Class) -> u8
-    ensures { result ≡ class_number class }
-{
-    match class {
-        Class::None => 0,
-        Class::Room => 1,
-        Class::Request => 2,
-        Class::Plan => 3,
-        Class::Form => 4,
+    match refusal::class_of(refusal) {
+        Some(class) => class as u8,
+        None => 0,
     }
 }

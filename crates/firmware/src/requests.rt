@@ -3,6 +3,7 @@ ghost use Rattle.book.specs.Told.{Told, Made, book_in, nothing_listed};
 ghost use Rattle.planner.specs.Requests.{Applies, answered};
 ghost use Rattle.firmware.specs.Requests.{TellsBook};
 
+use crate::tell::tell;
 use book::{Before, Times};
 use planner::Request;
 use schedule::JobIndex;
@@ -17,10 +18,7 @@ pub fn firmware_open(times: &mut Times, before: &mut Before)
 pub fn firmware_is_book(times: &Times, before: &Before) -> u8
     ensures { TellsBook (book_in times.now before.now) result }
 {
-    if planner::is_book(times, before) {
-        return 1;
-    }
-    0
+    u8::from(planner::is_book(times, before))
 }
 
 pub fn firmware_add_job(
@@ -33,7 +31,8 @@ pub fn firmware_add_job(
     requires { Made (book_in times.old before.old) }
     ensures { Applies (book_in times.old before.old) (Request.Job start deadline) (answered (book_in times.new before.new) result answer.new) }
 {
-    ask(times, before, Request::Job(start, deadline), answer)
+    let job = Request::Job(start, deadline);
+    tell(planner::apply(times, before, job), answer)
 }
 
 pub fn firmware_add_order(
@@ -46,12 +45,8 @@ pub fn firmware_add_order(
     requires { Made (book_in times.old before.old) }
     ensures { Applies (book_in times.old before.old) (Request.Before (record { 0 = first }) (record { 0 = second })) (answered (book_in times.new before.new) result answer.new) }
 {
-    ask(
-        times,
-        before,
-        Request::Before(JobIndex(first as usize), JobIndex(second as usize)),
-        answer,
-    )
+    let order = Request::Before(JobIndex::from(first), JobIndex::from(second));
+    tell(planner::apply(times, before, order), answer)
 }
 
 pub fn firmware_draw_in(
@@ -64,20 +59,6 @@ pub fn firmware_draw_in(
     requires { Made (book_in times.old before.old) }
     ensures { Applies (book_in times.old before.old) (Request.Earlier (record { 0 = job }) deadline) (answered (book_in times.new before.new) result answer.new) }
 {
-    ask(
-        times,
-        before,
-        Request::Earlier(JobIndex(job as usize), deadline),
-        answer,
-    )
-}
-
-// A request, and the answer told in numbers.
-fn ask(times: &mut Times, before: &mut Before, request: Request, answer: &mut usize) -> u8
-    requires { Made (book_in times.old before.old) }
-    ensures { Applies (book_in times.old before.old) request (answered (book_in times.new before.new) result answer.new) }
-{
-    let told = planner::apply(times, before, request);
-    *answer = refusal::value(told);
-    refusal::number(told)
+    let earlier = Request::Earlier(JobIndex::from(job), deadline);
+    tell(planner::apply(times, before, earlier), answer)
 }

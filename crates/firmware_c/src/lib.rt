@@ -1,4 +1,4 @@
-// What C links: the calls of `firmware` under their own names, each with its promise.
+// What C links: the calls of `firmware` under their own names, each with its promise. They stand twice since a crate is a library or what C links.
 
 #![tactic(auto)]
 

@@ -3,7 +3,7 @@
 use mathlib.Core.Bool.{true, false}
 use mathlib.Core.List.{List, [], ◌∷◌, ◌++◌, append_assoc, append-nil}
 use mathlib.Core.Logic.{⊎_elim}
-use mathlib.Core.Path.{◌≡◌, refl, sym, ap, ◌∙◌}
+use mathlib.Core.Path.{◌≡◌, refl, sym, ap, ap₂, ◌∙◌}
 use Prim.Native.Nat.{ℕ, zero, suc, ◌+◌, ◌*◌, ◌≤◌, ◌<◌}
 use native.Mathlib.Nat.{le_refl, add-zero}
 use native.Mathlib.Numerals.{add-one}
@@ -39,6 +39,12 @@ module _ {A : Type 0} (f : ℕ → List A) where
   pub gather_more : (n : ℕ) → gather (n + 1) f ≡ gather n f ++ f n
   unfolding gather
   gather_more n = rw add-one
+
+  -- what agrees below n gathers the same there
+  pub gather_same : (n : ℕ) (g : ℕ → List A) → ((i : ℕ) → i < n → f i ≡ g i) → gather n f ≡ gather n g
+  unfolding gather
+  gather_same zero g h = refl
+  gather_same (suc n) g h = ap₂ (λ front last. front ++ last) (gather_same n g (λ i l. h i (omega arith))) (h n (omega arith))
 
   gather_longer : (n m : ℕ) → n ≤ m → length (gather n f) ≤ length (gather m f)
   unfolding gather

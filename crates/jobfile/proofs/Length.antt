@@ -5,9 +5,11 @@ use mathlib.Core.List.{List, [], ◌∷◌}
 use mathlib.Core.Path.{◌≡◌, refl, sym, ap, ap₂, ◌∙◌}
 use Prim.Native.Nat.{ℕ, zero, suc, ◌+◌, ◌*◌, ◌≤◌, ◌<◌}
 use native.Mathlib.Nat.{le_antisymm, le_of_eq, lt_of_lt_of_le}
+use native.Mathlib.Numerals.{add-one}
 use native.Mathlib.Omega.{arith}
 use lib.Dec.{T}
-use lib.ListN.{length, get_or, length-append}
+use lib.ListN.{length, get_or, take, length-append}
+use Rattle.std.proofs.lemmas.List.Sums.{sum_by_more}
 use Rattle.schedule.specs.Count.{one, count}
 use Rattle.schedule.specs.Listed.{Listed}
 use Rattle.schedule.proofs.Counting.{count_inject, count_longer, count_lt, count_bound}
@@ -66,6 +68,18 @@ neither : (x y : Bool) → (T x → ⊥) → (T y → ⊥) → T (x || y) → �
 neither true y f g z = f tt
 neither false y f g z = g z
 
+-- ---- the sizes of the sets together
+abbrev pub pairs : ℕ → List ℕ → ℕ
+pairs n before = sum n (λ b. count 64 (has (get_or before b 0)))
+
+-- of the first sets, as the code adds them up
+pub pairs_taken : (n : ℕ) (before : List ℕ) → n ≤ length before → pairs_in (take n before) ≡ pairs n before
+unfolding sum
+pairs_taken zero before h = refl
+pairs_taken (suc n) before h =
+    ap (λ m. pairs_in (take m before)) (sym (add-one n)) ∙ sum_by_more (λ set. count 64 (has set)) before n 0 h
+    ∙ omega (arith, pairs_taken n before (omega arith))
+
 -- ---- what is gathered
 gather_length : {A : Type 0} (n : ℕ) (f : ℕ → List A) → length (gather n f) ≡ sum n (λ i. length (f i))
 unfolding gather sum
@@ -91,10 +105,10 @@ module _ (k : Book) where
         (count_longer k.size 64 (λ a. precedes a b) t.shaped.few)
         ∙ count_sum k.size (λ a. precedes a b)
 
-    pairs_by_second : pairs_in k.size k.before ≡ sum k.size (λ b. sum k.size (λ a. one (precedes a b)))
+    pairs_by_second : pairs k.size k.before ≡ sum k.size (λ b. sum k.size (λ a. one (precedes a b)))
     pairs_by_second = sum_same k.size _ _ (λ b l. members b)
 
-    pairs_by_first : pairs_in k.size k.before ≡ sum k.size (λ a. sum k.size (λ b. one (precedes a b)))
+    pairs_by_first : pairs k.size k.before ≡ sum k.size (λ a. sum k.size (λ b. one (precedes a b)))
     pairs_by_first = pairs_by_second ∙ sum_swap k.size k.size (λ b a. one (precedes a b))
 
     -- those that precede a job and those that it precedes: all but itself
@@ -107,18 +121,18 @@ module _ (k : Book) where
         (count_bound k.size (λ i. true)) in
         omega (arith, both, fewer, t.shaped.few)
 
-    pub pairs_few : 2 * pairs_in k.size k.before ≤ 63 * k.size
+    pub pairs_few : 2 * pairs k.size k.before ≤ 63 * k.size
     pairs_few =
         let twice = sum_add k.size (λ b. sum k.size (λ a. one (precedes a b))) (λ b. sum k.size (λ a. one (precedes b a))) in
         omega (arith, pairs_by_first, pairs_by_second, twice, sum_bound k.size _ row_few)
 
-    orders_length : length (gather k.size (follower_records k.size k.before)) ≡ pairs_in k.size k.before
+    orders_length : length (gather k.size (follower_records k.size k.before)) ≡ pairs k.size k.before
     orders_length =
         gather_length k.size (follower_records k.size k.before)
         ∙ sum_same k.size _ _ (λ a l. gather_length k.size (order_record k.before a) ∙ sum_same k.size _ _ (λ b h. order_length (precedes a b) _))
         ∙ sym pairs_by_first
 
-    pub file_length : length (file_of k) ≡ 6 * (k.size + pairs_in k.size k.before)
+    pub file_length : length (file_of k) ≡ 6 * (k.size + pairs k.size k.before)
     unfolding file_of records_of
     file_length =
         all_length (records_of k)

@@ -11,22 +11,21 @@ use lib.Dec.{T}
 use lib.ListN.{length}
 use Rattle.schedule.proofs.Tests.{le_by}
 use Rattle.book.specs.Told.{Book, Made}
-use Rattle.refusal.specs.declared.Answer.{Answer}
-use Rattle.refusal.specs.Says.{Says}
+use Rattle.std.specs.Prelude.{Option, Some, None, Result, Ok, Err}
+use Rattle.refusal.specs.declared.Refusal.{Refusal}
+use Rattle.refusal.specs.Says.{Says, reason_number}
 use Rattle.refusal.specs.Table.{Clear, Refuses, refused, passed, One}
-use Rattle.refusal.proofs.Says.{says_more}
+use Rattle.refusal.proofs.Says.{number_within, says_more}
 use Rattle.refusal.proofs.Table.{Each, among_each, refuses_each, table_one, table_free, table_caught, table_past, table_refused}
 use Rattle.planner.specs.declared.requests.Request.{Request}
 use Rattle.planner.specs.Requests.{Applied, answered, Applies}
 use Rattle.planner.proofs.Outcome.{applies_only, applied_number}
 use Rattle.records.specs.declared.Record.{Record}
 use Rattle.records.specs.Record.{length_of, Stands}
-use Rattle.records.specs.declared.Found.{Found}
-use Rattle.records.specs.declared.Found.TheVariants as found
 use Rattle.records.specs.Find.{Stops, Shows, find_checks, Finds}
-use Rattle.records.proofs.Standing.{length_six, stands_one, stands_within, stands_marked}
-use Rattle.jobfile.specs.declared.reader.Event.{Event}
-use Rattle.jobfile.specs.Reader.{AfterRead, after_read, stops, halts, Tells, asks, Stays, Answers, ReadsRecord}
+use Rattle.records.proofs.Finding.{stands_clear, finds_record, finds_stop}
+use Rattle.records.proofs.Standing.{length_six, stands_one, stands_within}
+use Rattle.jobfile.specs.Reader.{AfterRead, after_read, stops, halts, ReadEvent, Tells, asks, Stays, Answers, ReadsRecord}
 use Rattle.jobfile.proofs.Events.{never, tells_told, tells_only}
 
 -- ---- one outcome
@@ -42,7 +41,7 @@ module _ (k : Book) (file : List ℕ) (at : ℕ) (m : Made k) where
   reads_only r s x y = table_one (find_checks file at) (Stays k at) (Answers k file at) (λ n v a b p q. p ∙ sym q) answers_one r s x.outcome y.outcome
 
   -- and so the call has one event, and leaves one book and one offset
-  pub event_only : (b c : Book) (i j : ℕ) (r s : Event) → Tells r (λ n v. ReadsRecord k file at (after_read b i n v)) → Tells s (λ n v. ReadsRecord k file at (after_read c j n v)) →
+  pub event_only : (b c : Book) (i j : ℕ) (r s : ReadEvent) → Tells r (λ n v. ReadsRecord k file at (after_read b i n v)) → Tells s (λ n v. ReadsRecord k file at (after_read c j n v)) →
       (r ≡ s) × (b ≡ c) × (i ≡ j)
   event_only b c i j r s x y =
       let e = reads_only _ _ (tells_told (λ n v. ReadsRecord k file at (after_read b i n v)) r x) (tells_told (λ n v. ReadsRecord k file at (after_read c j n v)) s y) in
@@ -76,13 +75,6 @@ module _ (k : Book) (file : List ℕ) (at : ℕ) (r : AfterRead) (x : ReadsRecor
       let a = y.1 in
       (le_by _ _ y.0.0, omega (arith, a.moved, length_six a.stood), omega (arith, a.moved, stands_within file at a.stood a.stands))
 
--- a record that stands in a file in its limits passes every check
-stands_clear : (file : List ℕ) (at : ℕ) (q : Record) → length file ≤ 24576 → Stands file at q → Clear (find_checks file at)
-stands_clear file at q short x =
-    let within = stands_within file at q x in
-    let six = length_six q in
-    ((λ f. omega arith), ((λ f. omega arith), ((λ f. omega arith), λ f. f (stands_marked file at q x))))
-
 -- ---- a read by what stands at the offset of a file in its limits
 module _ (k : Book) (file : List ℕ) (at : ℕ) (r : AfterRead) where
   -- a record: it is answered and passed
@@ -100,35 +92,32 @@ reads_end k file r short x =
 
 -- ---- what is found decides
 module _ (k : Book) (file : List ℕ) (at : ℕ) (m : Made k) where
-  -- no record: the check that found its fault
-  caught : (f : Found) (n v : ℕ) → (Shows file at f → ⊥) → ((i w : ℕ) → Stops i w f → (n ≡ i) × (v ≡ w)) → Finds file at f → Refuses (find_checks file at) n v
-  caught f n v none same x =
-      let y = table_refused (find_checks file at) Stops (Shows file at) f none x.outcome in
-      let e = same y.0 y.1 y.3 in
-      rw (e.0, e.1) y.2
-
   halted : (n v : ℕ) → Refuses (find_checks file at) n v → ReadsRecord k file at (after_read k at n v)
   halted n v x = record { outcome = refused n v x refl; made = m }
 
-  pub end_reads : Finds file at found.End → ReadsRecord k file at (after_read k at 255 0)
-  end_reads x = halted 255 0 (caught found.End 255 0 (λ z. z) (λ i w z. z) x)
+  -- no record: the check that found its fault
+  caught : (f : Result (Option Record) Refusal) (n v : ℕ) → (Shows file at f → ⊥) → ((i w : ℕ) → Stops i w f → (n ≡ i) × (v ≡ w)) → Finds file at f → Refuses (find_checks file at) n v
+  caught f n v none same x =
+      let y = finds_stop file at f none x in
+      let e = same y.0 y.1 y.3 in
+      rw (e.0, e.1) y.2
 
-  pub stop_reads : (n v : ℕ) → Finds file at (found.Stopped n v) → T (stops n) × ReadsRecord k file at (after_read k at n v)
-  stop_reads n v x =
-      let other = (table_refused (find_checks file at) Stops (Shows file at) (found.Stopped n v) (λ z. z.1) x.outcome).3.0 in
-      let y = caught (found.Stopped n v) n v (λ z. z.1) (λ i w z. z.1) x in
-      (refuses_each (λ i. (i ≡ 255 → ⊥) → T (stops i)) (find_checks file at) n v ((λ f. tt), ((λ f. absurd (f refl)), ((λ f. tt), λ f. tt))) y other, halted n v y)
+  pub end_reads : Finds file at (Ok None) → ReadsRecord k file at (after_read k at 255 0)
+  end_reads x = halted 255 0 (caught (Ok None) 255 0 (λ z. z) (λ i w z. z) x)
 
-  module _ (told : Record) (x : Finds file at (found.Record told)) where
-    shown : Clear (find_checks file at) × Stands file at told
-    shown = table_past (find_checks file at) Stops (Shows file at) (found.Record told) (λ n v a z. z) x.outcome
+  pub stop_reads : (e : Refusal) → Finds file at (Err e) → T (stops (reason_number e.reason)) × ReadsRecord k file at (after_read k at (reason_number e.reason) e.value)
+  stop_reads e x =
+      let n : ℕ = reason_number e.reason in
+      let y = caught (Err e) n e.value (λ z. z) (λ i w z. z) x in
+      (refuses_each (λ i. (i ≡ 255 → ⊥) → T (stops i)) (find_checks file at) n e.value ((λ f. tt), ((λ f. absurd (f refl)), ((λ f. tt), λ f. tt))) y (λ q. omega (arith, q, (number_within e.reason).1)), halted n e.value y)
 
-    pub record_within : at + length_of told ≤ length file
-    record_within = stands_within file at told shown.1
+  module _ (told : Record) (x : Finds file at (Ok (Some told))) where
+    stands : Clear (find_checks file at) × Stands file at told
+    stands = let y = finds_record file at told x in (stands_clear file at told y.0 y.1, y.1)
 
-    pub request_reads : (b : Book) (a : Answer) → Says a (λ n v. Applies k (asks told) (answered b n v)) →
+    pub request_reads : (b : Book) (a : Result ℕ Refusal) → Says a (λ n v. Applies k (asks told) (answered b n v)) →
         Says a (λ n v. T (not (halts n)) × ReadsRecord k file at (after_read b (at + length_of told) n v))
     request_reads b a y = says_more _ _ a (λ n v z. (
       applies_number k (asks told) (answered b n v) m z,
-      record { outcome = passed shown.0 (record { stood = told; stands = shown.1; moved = refl; applies = z }); made = z.made },
+      record { outcome = passed stands.0 (record { stood = told; stands = stands.1; moved = refl; applies = z }); made = z.made },
     )) y

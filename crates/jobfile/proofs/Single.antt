@@ -3,7 +3,7 @@
 use mathlib.Core.Bool.{not}
 use mathlib.Core.List.{List, [], ◌∷◌, ◌++◌, append_assoc, append-nil}
 use mathlib.Core.Path.{◌≡◌, refl, sym, ap, ap₂, subst, ◌∙◌}
-use Prim.Native.Nat.{ℕ, ◌+◌, ◌*◌, ◌-◌, ◌≤◌, ◌<◌}
+use Prim.Native.Nat.{ℕ, ◌+◌, ◌*◌, ◌≤◌}
 use native.Mathlib.Nat.{zero-add}
 use native.Mathlib.Omega.{arith}
 use lib.Dec.{T}
@@ -11,12 +11,11 @@ use lib.ListN.{length, set, drop, length-append}
 use lib.Seq.{sets, sets-eq}
 use Rattle.book.specs.Told.{Book, Made}
 use Rattle.records.proofs.Stored.{sets_append}
-use Rattle.refusal.specs.declared.Answer.{Answer}
+use Rattle.std.specs.Prelude.{Some, Result, Ok}
+use Rattle.refusal.specs.declared.Refusal.{Refusal}
 use Rattle.refusal.specs.Says.{number_of, value_of}
 use Rattle.refusal.proofs.Says.{says_told}
-use Rattle.jobfile.specs.declared.reader.Event.{Event}
-use Rattle.jobfile.specs.declared.reader.Event.TheVariants as event
-use Rattle.jobfile.specs.Reader.{AfterRead, after_read, halts, Tells, ReadsRecord}
+use Rattle.jobfile.specs.Reader.{AfterRead, after_read, halts, ReadEvent, Tells, ReadsRecord}
 use Rattle.jobfile.specs.File.{SingleReads, last, more, ReadsFile}
 use Rattle.jobfile.specs.Inner.File.{Underway}
 use Rattle.jobfile.proofs.Events.{never, tells_told, tells_only}
@@ -24,14 +23,11 @@ use Rattle.jobfile.proofs.Reading.{reads_only, read_within}
 
 -- ---- the loop
 -- what the event of a request tells
-pub request_told : (k : Book) (file : List ℕ) (at : ℕ) (b : Book) (i : ℕ) (e : Event) (a : Answer) → e ≡ event.Request a → Tells e (λ n v. ReadsRecord k file at (after_read b i n v)) →
+pub request_told : (k : Book) (file : List ℕ) (at : ℕ) (b : Book) (i : ℕ) (e : ReadEvent) (a : Result ℕ Refusal) → e ≡ Ok (Some a) → Tells e (λ n v. ReadsRecord k file at (after_read b i n v)) →
     T (not (halts (number_of a))) × ReadsRecord k file at (after_read b i (number_of a) (value_of a))
 request_told k file at b i e a same x = says_told (λ n v. T (not (halts n)) × ReadsRecord k file at (after_read b i n v)) a (rw same at x)
 
 module _ (k : Book) (file old : List ℕ) where
-  pub underway_begins : Made k → Underway k file old old k 0 0
-  underway_begins m = record { numbers = []; count = refl; place = omega arith; bytes = refl; rest = λ others r p. p; made = m }
-
   module _ (new : List ℕ) (book : Book) (at n : ℕ) (u : Underway k file old new book at n) (r : AfterRead) (x : ReadsRecord book file at r) where
     -- the last read
     pub underway_ends : T (halts r.number) → ReadsFile k file old new n r
@@ -45,12 +41,6 @@ module _ (k : Book) (file old : List ℕ) where
 
     -- one record more
     module _ (h : T (not (halts r.number))) where
-      pub underway_less : length file - r.at < length file - at
-      underway_less = let i = read_within book file at r x h in omega arith
-
-      pub underway_room : n < 4096
-      underway_room = let i = read_within book file at r x h in omega (arith, u.place)
-
       pub underway_more : Underway k file old (set new n r.number) r.book r.at (n + 1)
       underway_more =
           let i = read_within book file at r x h in
@@ -97,7 +87,7 @@ module _ (k : Book) (file old : List ℕ) (m : Made k) where
       (p.1, x.count ∙ ap length p.0 ∙ sym y.count, x.bytes ∙ ap (sets old 0) p.0 ∙ sym y.bytes)
 
   -- and so the call has one event, and leaves one book
-  pub ended_only : (b c : Book) (i j n o : ℕ) (new other : List ℕ) (r s : Event) →
+  pub ended_only : (b c : Book) (i j n o : ℕ) (new other : List ℕ) (r s : ReadEvent) →
       Tells r (λ number v. ReadsFile k file old new n (after_read b i number v)) → Tells s (λ number v. ReadsFile k file old other o (after_read c j number v)) →
       (r ≡ s) × (b ≡ c) × (i ≡ j) × (n ≡ o) × (new ≡ other)
   ended_only b c i j n o new other r s x y =

@@ -1,50 +1,66 @@
 -- A book written out: what the code stores is the file, 12,480 bytes are enough, and writing has one outcome.
 -- Assumes nothing.
-use mathlib.Core.List.{List, ◌++◌}
-use mathlib.Core.Path.{◌≡◌, refl, sym, ap, ◌∙◌}
-use Prim.Native.Nat.{ℕ, ◌+◌, ◌≤◌, ◌<◌}
+use mathlib.Core.Bool.{cond}
+use mathlib.Core.List.{List, [], ◌∷◌, ◌++◌}
+use mathlib.Core.Path.{◌≡◌, refl, sym, ap, ap₂, ◌∙◌}
+use Prim.Native.Nat.{ℕ, ◌+◌, ◌*◌, ◌≤◌, ◌<◌}
 use native.Mathlib.Nat.{zero-add}
 use native.Mathlib.Omega.{arith}
-use lib.ListN.{length, drop, take, length-append}
-use lib.Seq.{sets, sets-eq, take_at}
+use lib.ListN.{length, drop, take, length-take, length-append}
+use lib.Seq.{sets, sets-eq, take_at, get_or-take}
 use Rattle.book.specs.Told.{Book, Made}
-use Rattle.refusal.specs.declared.Answer.{Answer}
+use Rattle.std.specs.Prelude.{Result}
+use Rattle.refusal.specs.declared.Refusal.{Refusal}
 use Rattle.refusal.specs.Says.{Says}
 use Rattle.refusal.specs.Table.{refused, passed}
 use Rattle.refusal.proofs.Says.{says_told, says_only}
 use Rattle.refusal.proofs.Table.{table_one, table_free, table_past}
+use Rattle.records.specs.declared.Record.TheVariants.{Job, Order}
 use Rattle.records.proofs.Stored.{sets_append}
+use Rattle.sets.specs.Sets.{has}
 use Rattle.jobfile.specs.Writer.{gather, bytes_of_all, job_record, follower_records, records_of, file_of, Output, output, WritesBook, Enough}
-use Rattle.jobfile.specs.Inner.Writer.{Continues}
-use Rattle.jobfile.proofs.Bytes.{all_append}
-use Rattle.jobfile.proofs.Length.{file_short}
+use Rattle.jobfile.specs.Inner.Writer.{pairs_in, jobs_bytes, orders_bytes, Continues}
+use Rattle.jobfile.proofs.Bytes.{all_append, gather_same}
+use Rattle.jobfile.proofs.Length.{pairs_taken, pairs_few, file_length, file_short}
+
+-- ---- the first entries of rows alone
+taken_length : (n : ℕ) (row : List ℕ) → n ≤ length row → length (take n row) ≡ n
+taken_length n row h = omega (arith, length-take n row)
+
+jobs_taken : (n : ℕ) (starts latest : List ℕ) → n ≤ length starts → jobs_bytes (take n starts) (take n latest) ≡ bytes_of_all (gather n (job_record starts latest))
+jobs_taken n starts latest h = rw (taken_length n starts h) (ap bytes_of_all (gather_same _ n _
+    (λ i l. ap₂ (λ start due. Job start due ∷ []) (get_or-take n starts i 0 l) (get_or-take n latest i 0 l))))
+
+orders_taken : (n : ℕ) (before : List ℕ) → n ≤ length before → orders_bytes (take n before) ≡ bytes_of_all (gather n (follower_records n before))
+orders_taken n before h = rw (taken_length n before h) (ap bytes_of_all (gather_same _ n _
+    (λ a la. gather_same _ n _ (λ b lb. ap (λ set. cond (has set a) (Order a b ∷ []) []) (get_or-take n before b 0 lb)))))
 
 module _ (k : Book) where
-  abbrev pub jobs_bytes : List ℕ
-  jobs_bytes = bytes_of_all (gather k.size (job_record k.start k.latest))
+  abbrev pub jobs_part : List ℕ
+  jobs_part = bytes_of_all (gather k.size (job_record k.start k.latest))
 
-  abbrev pub orders_bytes : List ℕ
-  orders_bytes = bytes_of_all (gather k.size (follower_records k.size k.before))
+  abbrev pub orders_part : List ℕ
+  orders_part = bytes_of_all (gather k.size (follower_records k.size k.before))
 
-  file_parts : file_of k ≡ jobs_bytes ++ orders_bytes
+  file_parts : file_of k ≡ jobs_part ++ orders_part
   unfolding file_of records_of
   file_parts = all_append (gather k.size (job_record k.start k.latest)) (gather k.size (follower_records k.size k.before))
 
-  pub file_both : length (file_of k) ≡ length jobs_bytes + length orders_bytes
-  file_both = ap length file_parts ∙ length-append jobs_bytes orders_bytes
+  pub file_both : length (file_of k) ≡ length jobs_part + length orders_part
+  file_both = ap length file_parts ∙ length-append jobs_part orders_part
 
   module _ (old : List ℕ) (n : ℕ) (e : n ≡ length (file_of k)) where
     pub short_writes : length old < n → WritesBook k old old 8 n
     short_writes h = record { outcome = refused 8 n (omega arith, refl, e) refl }
 
     -- jobs stored, and then orders, are the whole file stored
-    pub long_writes : (mid new : List ℕ) (at : ℕ) → n ≤ length old → Continues 0 jobs_bytes old mid at → new ≡ sets mid at orders_bytes → WritesBook k old new 0 n
+    pub long_writes : (mid new : List ℕ) (at : ℕ) → n ≤ length old → Continues 0 jobs_part old mid at → new ≡ sets mid at orders_part → WritesBook k old new 0 n
     long_writes mid new at h c x = record { outcome = passed (λ f. omega arith) (λ i. output (stored i) 0 (e i)) }
       where
         stored : new ≡ file_of k ++ drop (length (file_of k)) old
         stored =
-            x ∙ ap (λ (l : List ℕ). sets l at orders_bytes) c.stored ∙ ap (λ (m : ℕ). sets (sets old 0 jobs_bytes) m orders_bytes) c.next
-            ∙ sets_append jobs_bytes orders_bytes old 0 ∙ ap (sets old 0) (sym file_parts)
+            x ∙ ap (λ (l : List ℕ). sets l at orders_part) c.stored ∙ ap (λ (m : ℕ). sets (sets old 0 jobs_part) m orders_part) c.next
+            ∙ sets_append jobs_part orders_part old 0 ∙ ap (sets old 0) (sym file_parts)
             ∙ sets-eq (file_of k) old 0 (omega (arith, zero-add (length (file_of k)))) ∙ ap (λ (m : ℕ). file_of k ++ drop m old) (zero-add (length (file_of k)))
 
   -- ---- one outcome
@@ -52,7 +68,7 @@ module _ (k : Book) where
   writes_only old new other n v m w x y = table_one _ _ _ (λ i j a b p q. p ∙ sym q) (λ a b p q. p ∙ sym q) (output new n v) (output other m w) x.outcome y.outcome
 
   -- and so the call has one answer, and leaves one row of bytes
-  pub write_only : (old new other : List ℕ) (r s : Answer) → Says r (λ n v. WritesBook k old new n v) → Says s (λ n v. WritesBook k old other n v) → (r ≡ s) × (new ≡ other)
+  pub write_only : (old new other : List ℕ) (r s : Result ℕ Refusal) → Says r (λ n v. WritesBook k old new n v) → Says s (λ n v. WritesBook k old other n v) → (r ≡ s) × (new ≡ other)
   write_only old new other r s x y =
       let e = writes_only old new other _ _ _ _ (says_told (λ n v. WritesBook k old new n v) r x) (says_told (λ n v. WritesBook k old other n v) s y) in
       (says_only _ _ r s (λ n v m w p q. let f = writes_only old new other n v m w p q in (ap (λ (z : Output). z.number) f, ap (λ (z : Output). z.value) f)) x y, ap (λ (z : Output). z.bytes) e)
@@ -63,6 +79,21 @@ module _ (k : Book) where
       let y = (table_past _ _ _ (output new 0 v) (λ n w a p. let z = ap (λ (z : Output). z.number) p in omega (arith, a, z)) x.outcome).1 in
       let e : v ≡ length (file_of k) = ap (λ (z : Output). z.value) y in
       (e, ap (take v) (ap (λ (z : Output). z.bytes) y) ∙ take_at (file_of k) _ v (sym e))
+
+-- ---- as the code reads the rows: their first entries, as many as there are jobs
+module _ (k : Book) (m : Made k) (n : ℕ) (e : n ≡ k.size) where
+  pub pairs_fit : pairs_in (take n k.before) ≤ 4096
+  pairs_fit = rw e (omega (arith, pairs_taken k.size k.before (omega (arith, m.1.shaped.few, m.1.shaped.befores)), pairs_few k m.0 m.1, m.1.shaped.few))
+
+  -- six bytes for each job and for each pair are the whole file
+  pub counted : (p : ℕ) → p ≡ pairs_in (take n k.before) → 6 * (n + p) ≡ length (file_of k)
+  counted p f = rw (f, e) (omega (arith, pairs_taken k.size k.before (omega (arith, m.1.shaped.few, m.1.shaped.befores)), file_length k m.0 m.1))
+
+  pub jobs_are : (starts latest : List ℕ) → starts ≡ k.start → latest ≡ k.latest → jobs_bytes (take n starts) (take n latest) ≡ jobs_part k
+  jobs_are starts latest s l = rw (s, l, e) (jobs_taken k.size k.start k.latest (omega (arith, m.1.shaped.few, m.1.shaped.starts)))
+
+  pub orders_are : orders_bytes (take n k.before) ≡ orders_part k
+  orders_are = rw e (orders_taken k.size k.before (omega (arith, m.1.shaped.few, m.1.shaped.befores)))
 
 -- 12,480 bytes are always enough
 pub enough : (k : Book) → Made k → Enough k

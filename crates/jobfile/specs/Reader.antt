@@ -1,6 +1,6 @@
 -- One record read at an offset (01, Job file).
 -- Assumes nothing.
-use Rattle.std.specs.Prelude.{Bool, not, ◌||◌, List, ◌≡◌, ℕ, ◌+◌, T, eqb}
+use Rattle.std.specs.Prelude.{Bool, not, ◌||◌, List, ◌≡◌, ℕ, ◌+◌, T, eqb, Option, Some, None, Result, Ok, Err}
 use Rattle.book.specs.Told.{Book, Made}
 use Rattle.planner.specs.declared.requests.Request.{Request}
 use Rattle.planner.specs.declared.requests.Request.TheVariants as request
@@ -9,10 +9,9 @@ use Rattle.records.specs.declared.Record.{Record}
 use Rattle.records.specs.declared.Record.TheVariants.{Job, Order, Deadline}
 use Rattle.records.specs.Record.{length_of, Stands}
 use Rattle.records.specs.Find.{find_checks}
-use Rattle.refusal.specs.Says.{Says, number_of, value_of}
+use Rattle.refusal.specs.declared.Refusal.{Refusal}
+use Rattle.refusal.specs.Says.{Says, reason_number, number_of, value_of}
 use Rattle.refusal.specs.Table.{Table}
-use Rattle.jobfile.specs.declared.reader.Event.{Event}
-use Rattle.jobfile.specs.declared.reader.Event.TheVariants as event
 
 -- the book and the offset after a read, and its number and value; the end has no number in 01: it takes 255, which no refusal has
 pub record AfterRead : Type 0 where
@@ -32,22 +31,26 @@ stops n = eqb n 9 || eqb n 10 || eqb n 11
 abbrev pub halts : ℕ → Bool
 halts n = eqb n 255 || stops n
 
+-- what a read comes to: the answer to a request, nothing at the end, or the refusal that stops it
+abbrev pub ReadEvent : Type 0
+ReadEvent = Result (Option (Result ℕ Refusal)) Refusal
+
 -- the number and the value of every event, of which a promise says P (01, Code places: "a definition gives this paper's number and values for every case of the enum")
-abbrev pub Tells : Event → (ℕ → ℕ → Type 0) → Type 0
-Tells (event.Request answer) P = Says answer (λ number value. T (not (halts number)) × P number value)
-Tells event.End P = P 255 0
-Tells (event.Stopped number value) P = T (stops number) × P number value
+abbrev pub Tells : ReadEvent → (ℕ → ℕ → Type 0) → Type 0
+Tells (Ok (Some answer)) P = Says answer (λ number value. T (not (halts number)) × P number value)
+Tells (Ok None) P = P 255 0
+Tells (Err refusal) P = T (stops (reason_number refusal.reason)) × P (reason_number refusal.reason) refusal.value
 
 -- the number, and the value
-abbrev pub event_number : Event → ℕ
-event_number (event.Request answer) = number_of answer
-event_number event.End = 255
-event_number (event.Stopped number value) = number
+abbrev pub event_number : ReadEvent → ℕ
+event_number (Ok (Some answer)) = number_of answer
+event_number (Ok None) = 255
+event_number (Err refusal) = reason_number refusal.reason
 
-abbrev pub event_value : Event → ℕ
-event_value (event.Request answer) = value_of answer
-event_value event.End = 0
-event_value (event.Stopped number value) = value
+abbrev pub event_value : ReadEvent → ℕ
+event_value (Ok (Some answer)) = value_of answer
+event_value (Ok None) = 0
+event_value (Err refusal) = refusal.value
 
 -- what a record asks (01, Job file: "`JB` start, deadline; `OR` first, second; `TG` job, deadline")
 abbrev pub asks : Record → Request

@@ -1,10 +1,11 @@
 -- Where a walk over a text stands, and what a byte more does.
 -- Assumes nothing.
 use mathlib.Core.Bool.{Bool, true, false, cond}
-use mathlib.Core.List.{List, [], ◌∷◌, ◌++◌}
-use mathlib.Core.Path.{◌≡◌, refl, sym, ap, subst, ◌∙◌}
+use mathlib.Core.List.{List, [], ◌∷◌, ◌++◌, append_assoc, append-nil}
+use mathlib.Core.Path.{◌≡◌, refl, sym, ap, ap₂, subst, ◌∙◌}
 use Prim.Native.Nat.{ℕ, suc, ◌+◌, ◌-◌, ◌^◌, ◌≤◌, ◌<◌}
 use native.Mathlib.Numerals.{add-one}
+use native.Mathlib.Nat.{add-zero}
 use native.Mathlib.Omega.{arith}
 use native.Mathlib.Decide.{dec_le}
 use native.Mathlib.Nat.{lt_of_not-le}
@@ -12,23 +13,24 @@ use lib.Dec.{eqb, leb}
 use lib.ListN.{length, get_or, drop, length-append, get_or-append, get_or-eq_default}
 use lib.Seq.{sets, length-sets, drop-cons, drop-length, get_or-append_seam}
 use borrow.Author.Tests.{le-leb, lt-leb, leb-true}
+use Rattle.std.specs.Prelude.{Option, Some, None, Result, Ok, Err}
+use Rattle.records.specs.declared.Record.{Record}
 use Rattle.records.specs.Record.{bytes_of, length_of}
+use Rattle.records.specs.Store.{Stores}
+use Rattle.records.proofs.Storing.{stores_room}
 use Rattle.records.proofs.Standing.{bytes_length}
 use Rattle.records.proofs.Stored.{sets_append}
 use Rattle.keying.specs.Slip.{slip_number}
 use Rattle.keying.specs.Text.{inner, worded, Page, Turn, on, entered, wrong, fresh, grown, finished, ended, turn, Ending, complete, mistake, Meaning, stopped, heard, read, begin, meaning}
 use Rattle.keying.specs.Keys.{Answers}
-use Rattle.keying.specs.Inner.Walk.{Walks}
-use Rattle.keying.specs.Inner.Machine.{Counts, blank_reader, reader_turn}
+use Rattle.keying.specs.Inner.Walk.{mistake_at, Calls, joined, Walks}
+use Rattle.keying.specs.Inner.Machine.{Counts, Turned, blank_reader, reader_turn}
 use Rattle.keying.specs.declared.entry.Entry.{Entry}
-use Rattle.keying.specs.declared.entry.Taken.{Taken}
-use Rattle.keying.specs.declared.entry.Taken.TheVariants.{Grown, Wrong}
+use Rattle.keying.specs.declared.entry.Entry.TheVariants.{Empty, Marked, Begun, Whole}
 use Rattle.keying.specs.declared.entry.Slip.{Slip}
 use Rattle.keying.specs.declared.entry.Slip.TheVariants.{TooMany}
-use Rattle.keying.specs.declared.keyed.Keyed.{Keyed}
+use Rattle.keying.specs.declared.keyed.Mistake.{Mistake}
 use Rattle.keying.specs.declared.reader.Reader.{Reader}
-use Rattle.keying.specs.declared.reader.Went.{Went}
-use Rattle.keying.specs.declared.reader.Went.TheVariants as went
 use Rattle.keying.proofs.Shown.{shown, shown_turn, fresh_shown, turn_shown, shown_counts}
 
 -- the text with the newline that ends its last line
@@ -58,12 +60,15 @@ small_grown i p b h = go p.remark
 
 small_finished : (i : ℕ) (e : Entry) (q : Page) → Small (i + 1) q → After i (finished e q)
 unfolding finished
-small_finished i e q h = either i (eqb e.filled 0) _ _ h (either i (eqb e.filled 3) _ _ h (omega arith))
+small_finished i Empty q h = h
+small_finished i (Marked r) q h = omega arith
+small_finished i (Begun r) q h = omega arith
+small_finished i (Whole r) q h = h
 
-small_ended : (i : ℕ) (p : Page) (b : ℕ) (t : Taken) → Small i p → After i (ended p b t)
+small_ended : (i : ℕ) (p : Page) (b : ℕ) (t : Result Entry Slip) → Small i p → After i (ended p b t)
 unfolding ended fresh
-small_ended i p b (Wrong slip) h = h.2
-small_ended i p b (Grown e) h =
+small_ended i p b (Err slip) h = h.2
+small_ended i p b (Ok e) h =
     either i (eqb b 10) _ _ (small_finished i e _ (omega (arith, h.0), omega arith, omega arith))
     (either i (eqb b 44) _ _ (small_finished i e _ (omega (arith, h.0), omega (arith, h.1), omega arith)) (omega (arith, h.0), omega (arith, h.1), omega arith))
 
@@ -105,13 +110,13 @@ module _ (text : List ℕ) (reader : Reader) (i : ℕ) (done : List ℕ) where
   Stops slip start size = meaning text ≡ record { file = done; ending = mistake reader.line reader.entry (slip_number slip) start size }
 
   -- what a byte means for the walk
-  abbrev pub Means : Went → Type 0
-  Means (went.On next) = Reached text next (i + 1) done
-  Means (went.Entry next r) =
+  abbrev pub Means : Turned → Type 0
+  Means (Ok (next, None)) = Reached text next (i + 1) done
+  Means (Ok (next, Some r)) =
       (length done + length_of r ≤ 24576 → Reached text next (i + 1) (done ++ bytes_of r)) × (24576 < length done + length_of r → Stops TooMany (i - 0) 0)
-  Means (went.Wrong slip size) = (size ≤ i) × Stops slip (i - size) size
+  Means (Err (slip, size)) = (size ≤ i) × Stops slip (i - size) size
 
-  pub went_means : Reached text reader i done → i ≤ length text → (s : Went) → reader_turn reader (get_or text i 10) ≡ s → Means s
+  pub went_means : Reached text reader i done → i ≤ length text → (s : Turned) → reader_turn reader (get_or text i 10) ≡ s → Means s
   unfolding read heard stopped
   went_means w h s e =
       let b = get_or text i 10 in
@@ -139,28 +144,85 @@ at_end text reader i done w e =
     let o : read done w.page i (drop (length (lined text)) (lined text)) ≡ meaning text = rw (← l) w.onward in
     sym (rw (drop-length (lined text)) at o)
 
--- ---- what a walk tells at its end
-pub walks_by : {text done old new : List ℕ} {writing : Bool} {r : Keyed} {ending : Ending} → meaning text ≡ record { file = done; ending = ending }
-    → new ≡ cond writing (sets old 0 done) old → Answers (record { file = done; ending = ending }) r → Walks text writing old r new
-walks_by e f a = record { answer = rw e a; bytes = rw e f }
+-- ---- the records told
+joined_more : (told : List Record) (r : Record) → joined (told ++ (r ∷ [])) ≡ joined told ++ bytes_of r
+joined_more [] r = append-nil (bytes_of r)
+joined_more (q ∷ told) r = ap (λ l. bytes_of q ++ l) (joined_more told r) ∙ sym (append_assoc (bytes_of q) (joined told) (bytes_of r))
 
--- nothing yet
-pub stored_none : (writing : Bool) (old : List ℕ) → old ≡ cond writing (sets old 0 []) old
-stored_none true old = refl
-stored_none false old = refl
+module _ {F : Type 0} (call : F → ℕ → Record → F → Type 0) where
+  -- one record more
+  pub calls_more : (told : List Record) (f : F) (at : ℕ) (g h : F) (r : Record) → Calls call f at told g → call g (at + length (joined told)) r h → Calls call f at (told ++ (r ∷ [])) h
+  calls_more [] f at g h r e x = (h, rw (e, ← add-zero at) x, refl)
+  calls_more (q ∷ told) f at g h r c x =
+      let further : at + length (bytes_of q ++ joined told) ≡ at + length_of q + length (joined told) = simp length-append (omega (arith, bytes_length q)) in
+      (c.0, c.1, calls_more told c.0 (at + length_of q) g h r c.2 (rw further at x))
 
--- as many bytes as before
-pub stored_length : (writing : Bool) (done old new : List ℕ) → new ≡ cond writing (sets old 0 done) old → length new ≡ length old
-stored_length true done old new e = ap length e ∙ length-sets old 0 done
-stored_length false done old new e = ap length e
+  -- what each call keeps, all keep
+  pub calls_keep : (name : F → ℕ) → ((f : F) (at : ℕ) (r : Record) (g : F) → call f at r g → name g ≡ name f) → (told : List Record) (f : F) (at : ℕ) (g : F) → Calls call f at told g → name g ≡ name f
+  calls_keep name keeps [] f at g e = ap name (sym e)
+  calls_keep name keeps (r ∷ told) f at g c = calls_keep name keeps told c.0 (at + length_of r) g c.2 ∙ keeps f at r c.0 c.1
 
--- one record more
-pub stored_more : (writing : Bool) (done bytes old mid new : List ℕ) (at : ℕ) → at ≡ length done → mid ≡ cond writing (sets old 0 done) old
-    → new ≡ cond writing (sets mid at bytes) mid → new ≡ cond writing (sets old 0 (done ++ bytes)) old
-stored_more true done bytes old mid new at e f g =
-    let z : at ≡ 0 + length done = omega arith in
-    g ∙ ap (λ l. sets l at bytes) f ∙ rw z (sets_append done bytes old 0)
-stored_more false done bytes old mid new at e f g = g ∙ f
+  -- where each call stores its record, the bytes of all stand together
+  pub calls_stored : (out : F → List ℕ) → ((f : F) (at : ℕ) (r : Record) (g : F) → call f at r g → (fits : Bool) × Stores r at (out f) fits (out g))
+      → (told : List Record) (f : F) (at : ℕ) (g : F) → at + length (joined told) ≤ length (out f) → Calls call f at told g → out g ≡ sets (out f) at (joined told)
+  calls_stored out stores [] f at g h e = ap out (sym e)
+  calls_stored out stores (r ∷ told) f at g h c =
+      let long : length (bytes_of r ++ joined told) ≡ length_of r + length (joined told) = simp length-append (omega (arith, bytes_length r)) in
+      let stored = stores f at r c.0 c.1 in
+      let one = stores_room r at (out f) stored.0 (out c.0) (omega (arith, long)) stored.1 in
+      let size : at + length_of r ≡ at + length (bytes_of r) = omega (arith, bytes_length r) in
+      calls_stored out stores told c.0 (at + length_of r) g (omega (arith, long, ap length one.1, length-sets (out f) at (bytes_of r))) c.2
+      ∙ ap₂ (λ l i. sets l i (joined told)) one.1 size
+      ∙ sets_append (bytes_of r) (joined told) (out f) at
+
+-- ---- where the walk stands, with the records told so far
+pub record Told {F : Type 0} (call : F → ℕ → Record → F → Type 0) (text : List ℕ) (f : F) (reader : Reader) (i at : ℕ) (g : F) : Type 0 where
+  pub told : List Record
+  pub reached : Reached text reader i (joined told)
+  pub place : at ≡ length (joined told)
+  pub few : at ≤ 24576
+  pub calls : Calls call f 0 told g
+
+pub told_start : {F : Type 0} {call : F → ℕ → Record → F → Type 0} (text : List ℕ) (f : F) → Told call text f (blank_reader 1 1) (begin text) 0 f
+told_start text f = record { told = []; reached = reached_start text; place = refl; few = omega arith; calls = refl }
+
+module _ {F : Type 0} {call : F → ℕ → Record → F → Type 0} {text : List ℕ} {f g : F} {reader : Reader} {i at : ℕ} (w : Told call text f reader i at g) where
+  ends : {ending : Ending} {r : Result ℕ Mistake} → meaning text ≡ record { file = joined w.told; ending = ending } → Answers (record { file = joined w.told; ending = ending }) r → Walks text call f r g
+  ends e a = record { told = w.told; file = rw e refl; answer = rw e a; calls = w.calls }
+
+  means : (t : Turned) → i ≤ length text → reader_turn reader (get_or text i 10) ≡ t → Means text reader i (joined w.told) t
+  means t h e = went_means text reader i (joined w.told) w.reached h t e
+
+  -- the reader goes on
+  pub told_on : (turn : Reader × Option Record) → i ≤ length text → reader_turn reader (get_or text i 10) ≡ Ok turn → turn.1 ≡ None → Told call text f turn.0 (i + 1) at g
+  told_on turn h e none = record { told = w.told; reached = means (Ok (turn.0, None)) h (e ∙ ap (λ r. Ok (turn.0, r)) none); place = w.place; few = w.few; calls = w.calls }
+
+  -- one record more
+  pub told_more : (turn : Reader × Option Record) (r : Record) (k : F) → i ≤ length text → reader_turn reader (get_or text i 10) ≡ Ok turn → turn.1 ≡ Some r
+      → at + length_of r ≤ 24576 → call g at r k → Told call text f turn.0 (i + 1) (at + length_of r) k
+  told_more turn r k h e some fits c =
+      let all = joined_more w.told r in
+      let here : at ≡ 0 + length (joined w.told) = omega (arith, w.place) in
+      record {
+        told = w.told ++ (r ∷ []);
+        reached = rw all ((means (Ok (turn.0, Some r)) h (e ∙ ap (λ r. Ok (turn.0, r)) some)).0 (omega (arith, fits, w.place)));
+        place = rw all (simp length-append (omega (arith, w.place, bytes_length r)));
+        few = fits;
+        calls = calls_more call w.told f 0 g k r w.calls (rw here at c);
+      }
+
+  -- the records don't fit
+  pub told_over : (turn : Reader × Option Record) (r : Record) → i ≤ length text → reader_turn reader (get_or text i 10) ≡ Ok turn → turn.1 ≡ Some r
+      → 24576 < at + length_of r → Walks text call f (Err (mistake_at reader TooMany i 0)) g
+  told_over turn r h e some over = ends ((means (Ok (turn.0, Some r)) h (e ∙ ap (λ r. Ok (turn.0, r)) some)).1 (omega (arith, over, w.place))) refl
+
+  -- a mistake
+  pub told_wrong : (slip : Slip) (size : ℕ) → i ≤ length text → reader_turn reader (get_or text i 10) ≡ Err (slip, size)
+      → (size ≤ i) × Walks text call f (Err (mistake_at reader slip i size)) g
+  told_wrong slip size h e = let wrong = means (Err (slip, size)) h e in (wrong.0, ends wrong.1 refl)
+
+  pub told_end : i ≡ length text + 1 → Walks text call f (Ok at) g
+  told_end h = ends (at_end text reader i (joined w.told) w.reached h) (refl, w.place)
 
 -- a file is never longer than a job file may be (01, Numbers and limits: "at most 24,576 bytes")
 heard_few : (done : List ℕ) (p : Page) (i : ℕ) (t : Turn) (next : List ℕ → Page → Meaning) → length done ≤ 24576

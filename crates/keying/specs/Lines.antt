@@ -1,8 +1,8 @@
 -- A job file as lines that people read and `key` takes: `JB 0 4`.
 -- Assumes nothing.
-use Rattle.std.specs.Prelude.{cond, List, [], ◌∷◌, ◌++◌, ◌≡◌, ℕ, ◌+◌, ◌≤◌, eqb, length}
+use Rattle.std.specs.Prelude.{cond, List, [], ◌∷◌, ◌++◌, ◌≡◌, ℕ, ◌+◌, ◌≤◌, eqb, length, Result}
 use Rattle.std.proofs.lemmas.List.Edits.{sets}
-use Rattle.refusal.specs.declared.Answer.{Answer}
+use Rattle.refusal.specs.declared.Refusal.{Refusal}
 use Rattle.refusal.specs.Table.{Clear, Refuses}
 use Rattle.refusal.specs.Says.{Says}
 use Rattle.records.specs.declared.Record.{Record}
@@ -25,7 +25,7 @@ pub data Printed (file : List ℕ) : ℕ → List ℕ → ℕ → ℕ → Type 0
   shows : {at n v : ℕ} {text : List ℕ} (r : Record) → Clear (find_checks file at) → Stands file at r → Printed file (at + length_of r) text n v → Printed file at (line_of r ++ text) n v
 
 -- what lines promises; `within` follows from the rest, and serves the caller: at the end the lines, and the bytes beyond them as they were; at a stop its number and value, and all as it was
-pub record Lines (file out : List ℕ) (r : Answer) (after : List ℕ) : Type 0 where
+pub record Lines (file out : List ℕ) (r : Result ℕ Refusal) (after : List ℕ) : Type 0 where
   pub text : List ℕ
   pub number : ℕ
   pub value : ℕ

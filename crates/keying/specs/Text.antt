@@ -1,31 +1,29 @@
 -- What a keyed text means: the job file that it tells, and its first mistake.
 -- A text is lines, a line is entries parted by commas, an entry is words parted by blanks; `#` begins a remark that ends with its line.
 -- Assumes nothing.
-use Rattle.std.specs.Prelude.{Bool, true, false, cond, not, ◌&&◌, ◌||◌, List, [], ◌∷◌, ◌++◌, ℕ, ◌+◌, ◌-◌, ◌*◌, eqb, leb, ltb, length, get_or, drop}
+use Rattle.std.specs.Prelude.{Bool, true, false, cond, not, ◌&&◌, ◌||◌, List, [], ◌∷◌, ◌++◌, ℕ, ◌+◌, ◌-◌, ◌*◌, eqb, leb, ltb, length, get_or, drop, Result, Ok, Err}
+use Rattle.refusal.specs.declared.Refusal.{Refusal}
 use Rattle.records.specs.declared.Record.{Record}
 use Rattle.records.specs.declared.Record.TheVariants.{Job, Order, Deadline}
-use Rattle.records.specs.declared.Found.{Found}
-use Rattle.records.specs.declared.Found.TheVariants as found
 use Rattle.records.specs.Record.{bytes_of, length_of}
 use Rattle.records.specs.Find.{record_named}
 use Rattle.keying.specs.declared.entry.Slip.{Slip}
 use Rattle.keying.specs.declared.entry.Slip.TheVariants.{UnknownWord, MissingField, ExtraField, NotNumber, TooLarge, TooMany, CommaNumber}
 use Rattle.keying.specs.declared.entry.Entry.{Entry}
-use Rattle.keying.specs.declared.entry.Taken.{Taken}
-use Rattle.keying.specs.declared.entry.Taken.TheVariants.{Grown, Wrong}
+use Rattle.keying.specs.declared.entry.Entry.TheVariants.{Empty, Marked, Begun, Whole}
 use Rattle.keying.specs.Slip.{slip_number}
 
 -- ---- bytes and words
 -- a space, a tab, or a carriage return
-unfoldable pub blank : ℕ → Bool
+abbrev pub blank : ℕ → Bool
 blank b = eqb b 32 || eqb b 9 || eqb b 13
 
 -- part of a word or of a remark: no newline, and outside a remark no comma, no `#` and no blank
-unfoldable pub inner : Bool → ℕ → Bool
+abbrev pub inner : Bool → ℕ → Bool
 inner remark b = cond (eqb b 10) false (cond remark true (cond (eqb b 44) false (cond (eqb b 35) false (not (blank b)))))
 
 -- `0` to `9`
-unfoldable pub digit : ℕ → Bool
+abbrev pub digit : ℕ → Bool
 digit b = leb 48 b && leb b 57
 
 unfoldable pub digits : List ℕ → Bool
@@ -44,10 +42,7 @@ mark (a ∷ []) = 0
 mark (a ∷ b ∷ []) = 256 * a + b
 mark (a ∷ b ∷ c ∷ word) = 0
 
--- ---- an entry, word by word: how many words it has, and the record they tell, with 0 for a field to come
-abbrev pub no_entry : Entry
-no_entry = record { filled = 0; told = Job 0 0 }
-
+-- ---- an entry, word by word: empty, with its mark, with its first field, whole; the record that it tells so far, with 0 for a field to come
 abbrev pub set_first : Record → ℕ → Record
 set_first (Job a b) n = Job n b
 set_first (Order a b) n = Order n b
@@ -59,28 +54,32 @@ set_second (Order a b) n = Order a n
 set_second (Deadline a b) n = Deadline a n
 
 -- one field more
-unfoldable pub grown_by : Entry → ℕ → Entry
-grown_by e n = cond (eqb e.filled 1) (record { filled = 2; told = set_first e.told n }) (record { filled = 3; told = set_second e.told n })
+abbrev pub grown_by : Entry → ℕ → Entry
+grown_by (Marked r) n = Begun (set_first r n)
+grown_by (Begun r) n = Whole (set_second r n)
+grown_by Empty n = Empty
+grown_by (Whole r) n = Whole r
 
 -- a field is a number of 16 bits (01, Numbers and limits: "All fields arrive as 16-bit numbers")
-unfoldable pub field : Entry → List ℕ → Taken
-field e word = cond (digits word) (cond (leb (counted 0 word) 65535) (Grown (grown_by e (counted 0 word))) (Wrong TooLarge)) (Wrong NotNumber)
+unfoldable pub field : Entry → List ℕ → Result Entry Slip
+field e word = cond (digits word) (cond (leb (counted 0 word) 65535) (Ok (grown_by e (counted 0 word))) (Err TooLarge)) (Err NotNumber)
 
 -- a record by its mark, or else
-abbrev pub or_else : Found → Taken → Taken
-or_else (found.Record r) other = Grown (record { filled = 1; told = r })
-or_else found.End other = other
-or_else (found.Stopped number value) other = other
+abbrev pub or_else : Result Record Refusal → Result Entry Slip → Result Entry Slip
+or_else (Ok r) other = Ok (Marked r)
+or_else (Err refusal) other = other
 
 -- the first word is a mark of 01; digits alone, behind a comma, are a number that was keyed with a comma in it
-unfoldable pub first_word : ℕ → List ℕ → Taken
-first_word place word = or_else (record_named (mark word) 0 0 0) (Wrong (cond (ltb 1 place && digits word) CommaNumber UnknownWord))
+unfoldable pub first_word : ℕ → List ℕ → Result Entry Slip
+first_word place word = or_else (record_named (mark word) 0 0 0) (Err (cond (ltb 1 place && digits word) CommaNumber UnknownWord))
 
 -- the entry at a place of its line, with a word more, or what is wrong with the word
-unfoldable pub worded : ℕ → Entry → List ℕ → Taken
-worded place e [] = Grown e
-worded place e (b ∷ word) =
-    cond (eqb e.filled 0) (first_word place (b ∷ word)) (cond (eqb e.filled 3) (Wrong ExtraField) (field e (b ∷ word)))
+unfoldable pub worded : ℕ → Entry → List ℕ → Result Entry Slip
+worded place e [] = Ok e
+worded place Empty (b ∷ word) = first_word place (b ∷ word)
+worded place (Marked r) (b ∷ word) = field (Marked r) (b ∷ word)
+worded place (Begun r) (b ∷ word) = field (Begun r) (b ∷ word)
+worded place (Whole r) (b ∷ word) = Err ExtraField
 
 -- ---- a page: where a reader stands
 -- the line; the entry of the line, both counted from 1; within a remark or not; the entry so far, and the word under way
@@ -93,7 +92,7 @@ pub record Page : Type 0 where
 
 -- the start of an entry
 unfoldable pub fresh : ℕ → ℕ → Page
-fresh line entry = record { line = line; entry = entry; remark = false; partial = no_entry; word = [] }
+fresh line entry = record { line = line; entry = entry; remark = false; partial = Empty; word = [] }
 
 -- what a byte does: the reader goes on; an entry ended, with its record; a mistake, with the size of the word that is wrong, and 0 where none is
 pub data Turn : Type 0 where
@@ -107,12 +106,15 @@ grown p b = cond p.remark p (record { line = p.line; entry = p.entry; remark = f
 
 -- the end of an entry: it has no word, or three
 unfoldable pub finished : Entry → Page → Turn
-finished e next = cond (eqb e.filled 0) (on next) (cond (eqb e.filled 3) (entered next e.told) (wrong MissingField 0))
+finished Empty next = on next
+finished (Marked r) next = wrong MissingField 0
+finished (Begun r) next = wrong MissingField 0
+finished (Whole r) next = entered next r
 
 -- a word ended: newline; comma; else `#` or a blank
-unfoldable pub ended : Page → ℕ → Taken → Turn
-ended p b (Wrong slip) = wrong slip (length p.word)
-ended p b (Grown e) =
+unfoldable pub ended : Page → ℕ → Result Entry Slip → Turn
+ended p b (Err slip) = wrong slip (length p.word)
+ended p b (Ok e) =
     cond (eqb b 10) (finished e (fresh (p.line + 1) 1))
     (cond (eqb b 44) (finished e (fresh p.line (p.entry + 1)))
     (on (record { line = p.line; entry = p.entry; remark = eqb b 35; partial = e; word = [] })))

@@ -1,14 +1,14 @@
 // An entry of a keyed text, word by word: each word is judged where it ends.
 ghost use Rattle.std.specs.Prelude.{◌≡◌};
-ghost use Rattle.keying.specs.Text.{no_entry, set_first, set_second, grown_by};
-ghost use Rattle.keying.specs.Inner.Machine.{no_mark, first_by, numbered, entry_with};
+ghost use Rattle.keying.specs.Text.{set_first, set_second};
+ghost use Rattle.keying.specs.Inner.Machine.{first_by, entry_with};
 
-use crate::word;
 use crate::word::Word;
-use records::{Found, Record};
+use records::Record;
+use std::fmt;
 
 // What can be wrong with a keyed text.
-#[derive(Clone, Copy)]
+#[derive(Clone, Copy, Debug, PartialEq, Eq)]
 pub enum Slip {
     UnknownWord,
     MissingField,
@@ -19,100 +19,61 @@ pub enum Slip {
     CommaNumber,
 }
 
-// How many words there are, up to 3, and the record that they tell, with 0 for a field to come.
+impl fmt::Display for Slip {
+    fn fmt<W: fmt::Write>(&self, f: &mut fmt::Formatter<W>) -> fmt::Result {
+        f.write_str(match self {
+            Slip::UnknownWord => "unknown word",
+            Slip::MissingField => "missing field",
+            Slip::ExtraField => "extra field",
+            Slip::NotNumber => "not a number",
+            Slip::TooLarge => "number too large",
+            Slip::TooMany => "too many records",
+            Slip::CommaNumber => "number with a comma",
+        })
+    }
+}
+
+// The words so far, as the record that they tell, with 0 for a field to come: `records::named` makes it whole of a mark.
 #[derive(Clone, Copy)]
-pub struct Entry {
-    pub filled: u8,
-    pub told: Record,
+pub enum Entry {
+    Empty,
+    // a mark
+    Marked(Record),
+    // and its first field
+    Begun(Record),
+    // and its second
+    Whole(Record),
 }
 
-#[derive(Clone, Copy)]
-pub enum Taken {
-    Grown(Entry),
-    Wrong(Slip),
-}
-
-// No word yet.
-pub fn none() -> Entry
-    ensures { result ≡ no_entry }
-{
-    Entry {
-        filled: 0,
-        told: Record::Job(0, 0),
-    }
-}
-
-// The entry with the word at its end, unless no word was begun. The place of the entry in its line counts from 1.
-pub fn with(entry: Entry, place: usize, word: Word) -> Taken
-    ensures { result ≡ entry_with entry place word }
-{
-    let size = word.size;
-    let filled = entry.filled;
-    if size == 0 {
-        return Taken::Grown(entry);
-    }
-    if filled == 0 {
-        return first(place, word);
-    }
-    if filled == 3 {
-        return Taken::Wrong(Slip::ExtraField);
-    }
-    field(entry, word.number)
-}
-
-// A mark.
-fn first(place: usize, word: Word) -> Taken
-    ensures { result ≡ first_by place word }
-{
-    let number = word.number;
-    match records::named(word::mark(word), 0, 0, 0) {
-        Found::Record(told) => Taken::Grown(Entry { filled: 1, told }),
-        Found::End => unknown(place, number),
-        Found::Stopped(_, _) => unknown(place, number),
-    }
-}
-
-// No mark: digits alone, behind a comma, are a number that was keyed with a comma in it.
-fn unknown(place: usize, number: u32) -> Taken
-    ensures { result ≡ no_mark place number }
-{
-    if place > 1 {
-        if number <= 65536 {
-            return Taken::Wrong(Slip::CommaNumber);
+impl Entry {
+    // The entry with the word at its end, unless no word was begun. The place of the entry in its line counts from 1.
+    pub fn with(self, place: usize, word: Word) -> Result<Entry, Slip>
+        ensures { result ≡ entry_with self place word }
+    {
+        if word.size == 0 {
+            return Ok(self);
+        }
+        match self {
+            Entry::Empty => first(place, word),
+            Entry::Marked(told) => Ok(Entry::Begun(with_first(told, word.number?))),
+            Entry::Begun(told) => Ok(Entry::Whole(with_second(told, word.number?))),
+            Entry::Whole(_) => Err(Slip::ExtraField),
         }
     }
-    Taken::Wrong(Slip::UnknownWord)
 }
 
-fn field(entry: Entry, number: u32) -> Taken
-    ensures { result ≡ numbered entry number }
+// A mark. No mark, but digits alone, behind a comma, are a number that was keyed with a comma in it.
+fn first(place: usize, word: Word) -> Result<Entry, Slip>
+    ensures { result ≡ first_by place word }
 {
-    if number > 65536 {
-        return Taken::Wrong(Slip::NotNumber);
-    }
-    if number > 65535 {
-        return Taken::Wrong(Slip::TooLarge);
-    }
-    Taken::Grown(grown(entry, number as u16))
-}
-
-fn grown(entry: Entry, number: u16) -> Entry
-    ensures { result ≡ grown_by entry number }
-{
-    let filled = entry.filled;
-    let told = entry.told;
-    if filled == 1 {
-        return Entry {
-            filled: 2,
-            told: with_first(told, number),
-        };
-    }
-    Entry {
-        filled: 3,
-        told: with_second(told, number),
+    match word.record() {
+        Some(told) => Ok(Entry::Marked(told)),
+        None if place > 1 && word.is_digits() => Err(Slip::CommaNumber),
+        None => Err(Slip::UnknownWord),
     }
 }
 
+// The two differ in a field's place alone, which has no name that a call could pass.
 fn with_first(told: Record, number: u16) -> Record
     ensures { result ≡ set_first told number }
 {

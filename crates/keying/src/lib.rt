@@ -9,5 +9,5 @@ mod reader;
 mod word;
 
 pub use entry::Slip;
-pub use keyed::{Keyed, Mistake, key};
+pub use keyed::{Mistake, key};
 pub use lined::lines;

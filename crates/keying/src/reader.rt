@@ -1,11 +1,10 @@
 // Where a walk over a keyed text stands, and what a byte does there.
 ghost use Rattle.std.specs.Prelude.{◌≡◌};
-ghost use Rattle.keying.specs.Text.{blank, inner};
+ghost use Rattle.keying.specs.Text.{inner};
 ghost use Rattle.keying.specs.Inner.Machine.{Counts, blank_reader, reader_grown, reader_ended, reader_finished, reader_turn};
 
-use crate::entry::{Entry, Slip, Taken};
+use crate::entry::{Entry, Slip};
 use crate::word::Word;
-use crate::{entry, word};
 use records::Record;
 
 const NEWLINE: u8 = b'\n';
@@ -27,127 +26,90 @@ pub struct Reader {
     pub word: Word,
 }
 
-#[derive(Clone, Copy)]
-pub enum Went {
-    On(Reader),
-    // an entry ended
-    Entry(Reader, Record),
-    // with the size of the word that is wrong, and 0 where none is
-    Wrong(Slip, usize),
+// Where the reader stands after a byte, and the record of an entry that ended; or what is wrong, with the size of the word that is wrong, and 0 where none is.
+pub type Turn = Result<(Reader, Option<Record>), (Slip, usize)>;
+
+impl Reader {
+    // At the start of an entry.
+    pub fn fresh(line: usize, entry: usize) -> Reader
+        ensures { result ≡ blank_reader line entry }
+    {
+        Reader {
+            line,
+            entry,
+            remark: false,
+            partial: Entry::Empty,
+            word: Word::NONE,
+        }
+    }
+
+    // What the byte does: it belongs to a word or a remark, or a word ends before it. Inlined, so that the walk keeps the reader in registers.
+    #[inline(always)]
+    pub fn take(self, byte: u8) -> Turn
+        requires { Counts self }
+        ensures { result ≡ reader_turn self byte }
+    {
+        if is_inner(self.remark, byte) {
+            return Ok((self.grown(byte), None));
+        }
+        let partial = self
+            .partial
+            .with(self.entry, self.word)
+            .map_err(|slip| (slip, self.word.size))?;
+        self.ended(partial, byte)
+    }
+
+    fn grown(self, byte: u8) -> Reader
+        requires { Counts self }
+        ensures { result ≡ reader_grown self byte }
+    {
+        if self.remark {
+            return self;
+        }
+        Reader {
+            word: self.word.with(byte),
+            ..self
+        }
+    }
+
+    // After the word: a newline and a comma end the entry.
+    fn ended(self, partial: Entry, byte: u8) -> Turn
+        requires { Counts self }
+        ensures { result ≡ reader_ended self partial byte }
+    {
+        match byte {
+            NEWLINE => finished(partial, Reader::fresh(self.line + 1, 1)),
+            COMMA => finished(partial, Reader::fresh(self.line, self.entry + 1)),
+            _ => Ok((
+                Reader {
+                    remark: byte == HASH,
+                    partial,
+                    word: Word::NONE,
+                    ..self
+                },
+                None,
+            )),
+        }
+    }
 }
 
-// At the start of an entry.
-pub fn fresh(line: usize, entry: usize) -> Reader
-    ensures { result ≡ blank_reader line entry }
-{
-    Reader {
-        line: line,
-        entry: entry,
-        remark: false,
-        partial: entry::none(),
-        word: word::none(),
-    }
-}
-
-// What the byte does: it belongs to a word or a remark, or a word ends before it.
-pub fn take(reader: Reader, byte: u8) -> Went
-    requires { Counts reader }
-    ensures { result ≡ reader_turn reader byte }
-{
-    if is_inner(reader.remark, byte) {
-        return Went::On(grown(reader, byte));
-    }
-    let partial = reader.partial;
-    let word = reader.word;
-    match entry::with(partial, reader.entry, word) {
-        Taken::Wrong(slip) => Went::Wrong(slip, word.size),
-        Taken::Grown(more) => ended(reader, more, byte),
-    }
-}
-
-fn grown(reader: Reader, byte: u8) -> Reader
-    requires { Counts reader }
-    ensures { result ≡ reader_grown reader byte }
-{
-    let remark = reader.remark;
-    let partial = reader.partial;
-    let word = reader.word;
-    if remark {
-        return reader;
-    }
-    Reader {
-        line: reader.line,
-        entry: reader.entry,
-        remark: false,
-        partial: partial,
-        word: word::with(word, byte),
-    }
-}
-
-// After the word: a newline and a comma end the entry.
-fn ended(reader: Reader, partial: Entry, byte: u8) -> Went
-    requires { Counts reader }
-    ensures { result ≡ reader_ended reader partial byte }
-{
-    let line = reader.line;
-    let entry = reader.entry;
-    if byte == NEWLINE {
-        return finished(partial, fresh(line + 1, 1));
-    }
-    if byte == COMMA {
-        return finished(partial, fresh(line, entry + 1));
-    }
-    Went::On(Reader {
-        line: line,
-        entry: entry,
-        remark: byte == HASH,
-        partial: partial,
-        word: word::none(),
-    })
-}
-
-fn finished(partial: Entry, next: Reader) -> Went
+fn finished(partial: Entry, next: Reader) -> Turn
     ensures { result ≡ reader_finished partial next }
 {
-    let filled = partial.filled;
-    let whole = partial.told;
-    if filled == 0 {
-        return Went::On(next);
+    match partial {
+        Entry::Empty => Ok((next, None)),
+        Entry::Whole(told) => Ok((next, Some(told))),
+        Entry::Marked(_) | Entry::Begun(_) => Err((Slip::MissingField, 0)),
     }
-    if filled == 3 {
-        return Went::Entry(next, whole);
-    }
-    Went::Wrong(Slip::MissingField, 0)
 }
 
 // Part of a word or of a remark.
 fn is_inner(remark: bool, byte: u8) -> bool
     ensures { result ≡ inner remark byte }
 {
-    if byte == NEWLINE {
-        return false;
+    match byte {
+        NEWLINE => false,
+        COMMA | HASH | b' ' | b'\t' | b'\r' => remark,
+        _ => true,
     }
-    if remark {
-        return true;
-    }
-    if byte == COMMA {
-        return false;
-    }
-    if byte == HASH {
-        return false;
-    }
-    !is_blank(byte)
-}
-
-// A space, a tab or a carriage return.
-fn is_blank(byte: u8) -> bool
-    ensures { result ≡ blank byte }
-{
-    if byte == b' ' {
-        return true;
-    }
-    if byte == b'\t' {
-        return true;
-    }
-    byte == b'\r'
 }

@@ -2,16 +2,16 @@
 
 #![tactic(auto)]
 
-fn main(rt: HostRuntime) {
-    // one byte more than a job file may have, so that a longer one is seen
-    let mut file = [0u8; 24577];
-    let (n, came) = stream::read_full(&rt, &mut file);
-    if n < 24577 {
-        if !stream::ended(&rt, came) {
-            return;
-        }
+use stream::Program;
+
+struct Late;
+
+impl Program<80> for Late {
+    fn text(file: &[u8], out: &mut [u8; 80]) -> usize {
+        verdict::verdict(file, out)
     }
-    let mut text = [0u8; 80];
-    let length = verdict::verdict(&file[..n], &mut text);
-    stream::write_whole(&rt, &text[..length]);
+}
+
+fn main(rt: HostRuntime) {
+    stream::run::<80, Late>(&rt);
 }

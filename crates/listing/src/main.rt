@@ -2,16 +2,16 @@
 
 #![tactic(auto)]
 
-fn main(rt: HostRuntime) {
-    // one byte more than a job file may have, so that a longer one is seen
-    let mut file = [0u8; 24577];
-    let (n, came) = stream::read_full(&rt, &mut file);
-    if n < 24577 {
-        if !stream::ended(&rt, came) {
-            return;
-        }
+use stream::Program;
+
+struct Listing;
+
+impl Program<196608> for Listing {
+    fn text(file: &[u8], out: &mut [u8; 196608]) -> usize {
+        report::listing(file, out)
     }
-    let mut text = [0u8; 196608];
-    let length = report::listing(&file[..n], &mut text);
-    stream::write_whole(&rt, &text[..length]);
+}
+
+fn main(rt: HostRuntime) {
+    stream::run::<196608, Listing>(&rt);
 }

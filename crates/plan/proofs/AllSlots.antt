@@ -9,7 +9,7 @@ use native.Mathlib.Nat.{le_antisymm}
 use native.Mathlib.Omega.{arith}
 use borrow.Author.Tests.{lt-ltb}
 use lib.Dec.{T, eqb, ltb, leb→le, le→leb, ltb→lt}
-use lib.ListN.{replicate, get_or-replicate}
+use lib.ListN.{replicate}
 use Rattle.schedule.specs.Jobs.{Jobs}
 use Rattle.schedule.specs.Plan.{finish}
 use Rattle.schedule.specs.Make.{slots}
@@ -19,21 +19,21 @@ use Rattle.schedule.proofs.Seats.{slots_stay, slot_seat}
 use Rattle.sets.specs.Sets.{has, Below}
 use Rattle.sets.proofs.Bits.{empty_has, has_some, none_is}
 use Rattle.sets.proofs.Range.{below_in}
-use Rattle.book.specs.Told.{Book, jobs_in, row_in, jobs_of, latest_of, cores}
+use Rattle.book.specs.Told.{Book, jobs_of, latest_of, cores}
 use Rattle.plan.specs.declared.layout.Stage.{Stage}
 use Rattle.plan.specs.Plan.{horizon, unplaced, slots_by, seat_at, plan_of}
-use Rattle.plan.specs.Inner.Layout.{Laid, Serving, Late, Serves, Lays}
+use Rattle.plan.specs.Inner.Layout.{Laid, Late, Lays}
 
 module _ (m : ℕ) (J : Jobs) (row : ℕ → ℕ) where
   -- before slot 0
-  pub laid_none : (left : ℕ) → J.size ≤ 64 → Below J.size left → Laid m J row (replicate 64 unplaced) (record { left = left; on_core_1 = 0; next = record { 0 = 0 } })
+  pub laid_none : (left : ℕ) → J.size ≤ 64 → Below J.size left → Laid m J row (replicate 64 0) (record { left = left; on_core_1 = 0; next = record { 0 = 0 } })
   unfolding slots
   laid_none left few below =
       let whole : (j : ℕ) → has left j ≡ ltb j J.size = below_in J.size left few below in
       record {
         kept = record {
           row = refl;
-          at = λ i l. get_or-replicate 64 i unplaced 0 (omega arith);
+          at = λ i l placed. absurd (omega (arith, placed));
           free = λ i l. whole i ∙ lt-ltb i J.size l;
           held = λ i x. ltb→lt i J.size (subst T (whole i) x);
         };
@@ -78,7 +78,7 @@ module _ (m : ℕ) (J : Jobs) (row : ℕ → ℕ) where
 pub lays : (k : Book) (slot : List ℕ) (g : Stage) → Laid cores (jobs_of k) (latest_of k) slot g → g.next.0 ≤ horizon → g.left ≡ 0 →
     (g.next.0 ≡ 0) ⊎ Late cores (jobs_of k) (latest_of k) g.next.0 → Lays k (record { slot = slot; on_core_1 = g.on_core_1; finish = g.next.0 })
 lays k slot g a within none last = record {
-  at = λ i l. a.kept.at i l ∙ sym (same i l);
+  at = λ i l. a.kept.at i l (all_placed cores (jobs_of k) (latest_of k) slot g a within none i l) ∙ sym (same i l);
   core = λ i l.
       let placed : ltb (so_far i) unplaced ≡ true = lt-ltb (so_far i) unplaced (all_placed cores (jobs_of k) (latest_of k) slot g a within none i l) in
       let here : has g.on_core_1 i ≡ eqb (seat_at cores (jobs_of k) (latest_of k) (so_far i) 1) i = a.on_1 i l ∙ simp placed in
@@ -91,11 +91,3 @@ lays k slot g a within none last = record {
 
     same : (i : ℕ) → i < k.size → plan_of k i ≡ so_far i
     same = stay cores (jobs_of k) (latest_of k) slot g a within none
-
--- the parts of a book as the code reads them: a slot of theirs is a slot of the book's
-module _ (k : Book) (size : ℕ) (start latest : List ℕ) (many : size ≡ k.size) (begin : start ≡ k.start) (due : latest ≡ k.latest) where
-  pub serving_parts : (slot : List ℕ) (g : Stage) → Serving cores k.size k.start k.latest k.before slot g → Serving cores size start latest k.before slot g
-  serving_parts slot g x = rw (many, begin, due) x
-
-  pub parts_served : (g : Stage) (slot : List ℕ) (r : Stage) → Serves cores (jobs_in size start k.before) (row_in latest) g slot r → Serves cores (jobs_of k) (latest_of k) g slot r
-  parts_served g slot r x = rw (← many, ← begin, ← due) x

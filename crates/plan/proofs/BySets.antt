@@ -1,7 +1,6 @@
 -- The choice of a job by sets is the plan's.
 -- Assumes nothing.
 use mathlib.Core.Bool.{Bool, true, false, not, ◌&&◌, ◌||◌}
-use mathlib.Core.List.{List}
 use mathlib.Core.Path.{◌≡◌, refl, sym, ap₂, subst, ◌∙◌}
 use Prim.Native.Nat.{ℕ, ◌<◌}
 use native.Mathlib.Omega.{arith}
@@ -14,7 +13,7 @@ use Rattle.schedule.proofs.Tests.{and_pair, and_fst, and_snd, same_test, eq→eq
 use Rattle.schedule.proofs.Choice.{all_each, each_all}
 use Rattle.schedule.proofs.Loop.{choose_ext}
 use Rattle.sets.specs.Sets.{has}
-use Rattle.book.specs.Told.{jobs_in, row_in}
+use Rattle.book.specs.Told.{Book, jobs_of, latest_of}
 use Rattle.plan.specs.Plan.{unplaced}
 use Rattle.plan.specs.Inner.Choice.{ready_by}
 use Rattle.sets.proofs.Bits.{and_has, has_some, none_is}
@@ -53,14 +52,14 @@ swap_first true false c = refl
 swap_first false true c = refl
 swap_first false false c = refl
 
-module _ (size : ℕ) (start latest before : List ℕ) (t left undone : ℕ) (slot_of : ℕ → ℕ)
-    (free : (i : ℕ) → i < size → has left i ≡ leb unplaced (slot_of i))
-    (late : (i : ℕ) → i < size → has undone i ≡ leb t (slot_of i))
-    (held : (i : ℕ) → T (has undone i) → i < size) where
-  pub choice_taken : choose size (row_in latest) (ready_by start before left undone t) size ≡ taken (jobs_in size start before) (row_in latest) unplaced t slot_of
+module _ (k : Book) (t left undone : ℕ) (slot_of : ℕ → ℕ)
+    (free : (i : ℕ) → i < k.size → has left i ≡ leb unplaced (slot_of i))
+    (late : (i : ℕ) → i < k.size → has undone i ≡ leb t (slot_of i))
+    (held : (i : ℕ) → T (has undone i) → i < k.size) where
+  pub choice_taken : choose k.size (latest_of k) (ready_by k left undone t) k.size ≡ taken (jobs_of k) (latest_of k) unplaced t slot_of
   unfolding taken ready
-  choice_taken = choose_ext size (row_in latest) (row_in latest) (ready_by start before left undone t) (ready (jobs_in size start before) unplaced t slot_of) size
+  choice_taken = choose_ext k.size (latest_of k) (latest_of k) (ready_by k left undone t) (ready (jobs_of k) unplaced t slot_of) k.size
       (λ i l. refl)
       (λ i l.
-      swap_first (has left i) (leb (get_or start i 0) t) (eqb (bit_and (get_or before i 0) undone) 0)
-      ∙ ap₂ (λ x y. leb (get_or start i 0) t && x && y) (free i l) (apart_all size (get_or before i 0) undone t slot_of late held))
+      swap_first (has left i) (leb (get_or k.start i 0) t) (eqb (bit_and (get_or k.before i 0) undone) 0)
+      ∙ ap₂ (λ x y. leb (get_or k.start i 0) t && x && y) (free i l) (apart_all k.size (get_or k.before i 0) undone t slot_of late held))

@@ -11,7 +11,7 @@ use native.Mathlib.Numerals.{add-one}
 use native.Mathlib.Omega.{arith}
 use borrow.Author.Tests.{le-leb, lt-leb, eq-eqb, ne_eqb}
 use lib.Dec.{T, eqb, leb, ltb, leb→le, le→leb, ltb→lt, lt→ltb, eqb→eq}
-use lib.ListN.{length-set, set, get_or}
+use lib.ListN.{length-set, set}
 use lib.Seq.{get_or-set_same, get_or-set_other}
 use Rattle.schedule.specs.Row.{put}
 use Rattle.schedule.specs.Jobs.{Jobs}
@@ -25,7 +25,7 @@ use Rattle.schedule.proofs.Seats.{taken_chosen, taken_free, seat_slot, slot_seat
 use Rattle.sets.specs.Sets.{has, With, Without}
 use Rattle.sets.proofs.Bits.{none_is}
 use Rattle.sets.proofs.Range.{with_in}
-use Rattle.book.specs.Told.{jobs_in, row_in, cores}
+use Rattle.book.specs.Told.{Book, jobs_of, row_in, latest_of, cores}
 use Rattle.plan.specs.declared.layout.Stage.{Stage}
 use Rattle.plan.specs.Plan.{unplaced, slots_by, seat_at}
 use Rattle.plan.specs.Inner.Choice.{begins, ready_by, others, Wakes}
@@ -38,7 +38,7 @@ module _ (size t : ℕ) (slot_of : ℕ → ℕ) (slot : List ℕ) (left : ℕ) (
   kept_alike : (other : ℕ → ℕ) → Agree size other slot_of → Kept size other slot left
   kept_alike other e = record {
     row = k.row;
-    at = λ i l. k.at i l ∙ sym (e i l);
+    at = λ i l placed. k.at i l (omega (arith, placed, e i l)) ∙ sym (e i l);
     free = λ i l. k.free i l ∙ ap (leb unplaced) (sym (e i l));
     held = k.held;
   }
@@ -47,9 +47,9 @@ module _ (size t : ℕ) (slot_of : ℕ → ℕ) (slot : List ℕ) (left : ℕ) (
   kept_put : (job rest : ℕ) → job < size → size ≤ 64 → t < unplaced → Without left job rest → Kept size (put slot_of job t) (set slot job t) rest
   kept_put job rest l few early without = record {
     row = simp length-set k.row;
-    at = λ i h. sym (⊎_elim
+    at = λ i h placed. sym (⊎_elim
         (λ x. x.1 ∙ sym (rw x.0 (get_or-set_same slot job t 0 (omega (arith, k.row)))))
-        (λ x. x.1 ∙ sym (k.at i h) ∙ sym (get_or-set_other slot job i t 0 x.0))
+        (λ x. x.1 ∙ sym (k.at i h (omega (arith, placed, x.1))) ∙ sym (get_or-set_other slot job i t 0 x.0))
         (put_cases slot_of job t i));
     free = λ i h. without i ∙ ⊎_elim
         (λ x. rw x.1 (simp (eq-eqb i job x.0, lt-leb unplaced t early, and-false)))
@@ -187,7 +187,7 @@ swap_last true false z = sym (and-false z)
 swap_last false y z = refl
 
 -- ---- what the code does in a slot
-module _ (size : ℕ) (start latest before : List ℕ) (slot : List ℕ) (g : Stage) (s : Serving cores size start latest before slot g) where
+module _ (k : Book) (slot : List ℕ) (g : Stage) (s : Serving cores k slot g) where
   abbrev t : ℕ
   t = g.next.0
 
@@ -195,10 +195,10 @@ module _ (size : ℕ) (start latest before : List ℕ) (slot : List ℕ) (g : St
   left = g.left
 
   abbrev J : Jobs
-  J = jobs_in size start before
+  J = jobs_of k
 
   abbrev row : ℕ → ℕ
-  row = row_in latest
+  row = latest_of k
 
   -- the slots once c cores have taken their jobs, and core c's job
   abbrev served : ℕ → ℕ → ℕ
@@ -207,49 +207,49 @@ module _ (size : ℕ) (start latest before : List ℕ) (slot : List ℕ) (g : St
   abbrev pub job_of : ℕ → ℕ
   job_of = seat_at cores J row t
 
-  kept_none : Kept size (served 0) slot left
+  kept_none : Kept k.size (served 0) slot left
   kept_none = rw (after_none cores J row t) s.laid.kept
 
   -- a core takes its job
-  kept_job : (c : ℕ) (slot' : List ℕ) (among job rest : ℕ) → Kept size (served c) slot' among → job ≡ job_of c → job < size → Without among job rest → Kept size (served (suc c)) (set slot' job t) rest
-  kept_job c slot' among job rest k e l w =
-      rw (after_next cores J row t c, ← e) (kept_put size t (served c) slot' among k job rest l s.few s.early w)
+  kept_job : (c : ℕ) (slot' : List ℕ) (among job rest : ℕ) → Kept k.size (served c) slot' among → job ≡ job_of c → job < k.size → Without among job rest → Kept k.size (served (suc c)) (set slot' job t) rest
+  kept_job c slot' among job rest x e l w =
+      rw (after_next cores J row t c, ← e) (kept_put k.size t (served c) slot' among x job rest l s.few s.early w)
 
   -- some job is left
-  some_left : (i : ℕ) × (i < size) × (unplaced ≤ now cores J row t i)
+  some_left : (i : ℕ) × (i < k.size) × (unplaced ≤ now cores J row t i)
   some_left = ⊎_elim
       (λ none. absurd (s.some (none_is left (λ j x. none j (s.laid.kept.held j x) x))))
       (λ x. (x.at, x.below, leb→le unplaced (now cores J row t x.at) (subst T (s.laid.kept.free x.at x.below) x.member)))
-      (least size (has left) (λ i. i))
+      (least k.size (has left) (λ i. i))
 
   -- core c's job, as the code chooses it of the jobs not taken yet; what other cores took is still undone
-  job_chosen : (c : ℕ) (slot' : List ℕ) (among : ℕ) → Kept size (served c) slot' among → choose size row (ready_by start before among left t) size ≡ job_of c
-  job_chosen c slot' among k =
-      choice_taken size start latest before t among left (served c) k.free
+  job_chosen : (c : ℕ) (slot' : List ℕ) (among : ℕ) → Kept k.size (served c) slot' among → choose k.size row (ready_by k among left t) k.size ≡ job_of c
+  job_chosen c slot' among x =
+      choice_taken k t among left (served c) x.free
       (λ i l. s.laid.kept.free i l ∙ late_after cores J row t s.early c i l) s.laid.kept.held ∙ sym (seat_taken cores J row t c)
 
-  pub core_0_is : choose size row (ready_by start before left left t) size ≡ job_of 0
+  pub core_0_is : choose k.size row (ready_by k left left t) k.size ≡ job_of 0
   core_0_is = job_chosen 0 slot left kept_none
 
   -- both idle, until a job starts
-  pub idle_serves : (a next : ℕ) → a ≡ job_of 0 → size ≤ a → Wakes size (row_in start) t next →
-      Serves cores J row g slot (record { left = left; on_core_1 = g.on_core_1; next = record { 0 = next } })
-  idle_serves a next e h w = record {
+  pub idle_serves : (next : ℕ) → k.size ≡ job_of 0 → Wakes k.size (row_in k.start) t next →
+      Serves cores k g slot (record { left = left; on_core_1 = g.on_core_1; next = record { 0 = next } })
+  idle_serves next e w = record {
     later = w.later;
     within = w.within;
     laid = record {
-      kept = kept_alike size t (now cores J row t) slot left s.laid.kept (slots_by cores J row next) same;
+      kept = kept_alike k.size t (now cores J row t) slot left s.laid.kept (slots_by cores J row next) same;
       on_1 = λ i l. s.laid.on_1 i l ∙ ap (λ x. ltb x unplaced && eqb (seat_at cores J row x 1) i) (sym (same i l));
     };
     late = let x = some_left in (x.0, x.1, omega (arith, same x.0 x.1, x.2, w.within));
   }
     where
-      same : Agree size (slots_by cores J row next) (now cores J row t)
-      same = idle_slots cores J row t next s.early (idle_is cores J row t 0 (omega (arith, e))) w next (le_of_lt w.later) (le_refl next)
+      same : Agree k.size (slots_by cores J row next) (now cores J row t)
+      same = idle_slots cores J row t next s.early (sym e) w next (le_of_lt w.later) (le_refl next)
 
   -- what is kept of the whole slot serves
-  next_serves : (slot' : List ℕ) (left' on_1 : ℕ) → Kept size (served cores) slot' left' → ((i : ℕ) → i < size → has on_1 i ≡ (has g.on_core_1 i || eqb i (job_of 1))) →
-      Serves cores J row g slot' (record { left = left'; on_core_1 = on_1; next = record { 0 = t + 1 } })
+  next_serves : (slot' : List ℕ) (left' on_1 : ℕ) → Kept k.size (served cores) slot' left' → ((i : ℕ) → i < k.size → has on_1 i ≡ (has g.on_core_1 i || eqb i (job_of 1))) →
+      Serves cores k g slot' (record { left = left'; on_core_1 = on_1; next = record { 0 = t + 1 } })
   next_serves slot' left' on_1 kept more = record {
     later = omega arith;
     within = omega (arith, s.early);
@@ -263,30 +263,28 @@ module _ (size : ℕ) (start latest before : List ℕ) (slot : List ℕ) (g : St
         (x.0, x.1, rw (slots_next cores J row t) (omega (arith, leb→le t (served cores x.0) late)));
   }
 
-  module _ (a rest : ℕ) (e : a ≡ job_of 0) (held : a < size) (without : Without left a rest) where
-    kept_core_0 : Kept size (served 1) (set slot a t) rest
+  module _ (a rest : ℕ) (e : a ≡ job_of 0) (held : a < k.size) (without : Without left a rest) where
+    kept_core_0 : Kept k.size (served 1) (set slot a t) rest
     kept_core_0 = kept_job 0 slot left a rest kept_none e held without
 
-    pub core_1_is : choose size row (others a (ready_by start before left left t)) size ≡ job_of 1
+    pub core_1_is : choose k.size row (others a (ready_by k left left t)) k.size ≡ job_of 1
     core_1_is =
-        choose_ext size row row (others a (ready_by start before left left t)) (ready_by start before rest left t) size
+        choose_ext k.size row row (others a (ready_by k left left t)) (ready_by k rest left t) k.size
         (λ i l. refl)
-        (λ i l. swap_last (has left i) (begins (get_or start i 0) (get_or before i 0) left t) (not (eqb i a)) ∙ ap (λ x. x && begins (get_or start i 0) (get_or before i 0) left t) (sym (without i)))
+        (λ i l. swap_last (has left i) (begins k left t i) (not (eqb i a)) ∙ ap (λ x. x && begins k left t i) (sym (without i)))
         ∙ job_chosen 1 (set slot a t) rest kept_core_0
 
-    module _ (b : ℕ) (f : b ≡ job_of 1) where
-      -- a lone job on core 0
-      pub lone_serves : size ≤ b → Serves cores J row g (set slot a t) (record { left = rest; on_core_1 = g.on_core_1; next = record { 0 = t + 1 } })
-      lone_serves h =
-          let idle : job_of 1 ≡ size = idle_is cores J row t 1 (omega (arith, f)) in
-          next_serves (set slot a t) rest g.on_core_1
-          (kept_alike size t (served 1) (set slot a t) rest kept_core_0 (served cores) (idle_alike cores J row t 1 cores (omega arith) idle))
-          (λ i l. rw (ne_eqb i (job_of 1) (λ q. omega arith)) (sym (or-false (has g.on_core_1 i))))
+    -- a lone job on core 0
+    pub lone_serves : k.size ≡ job_of 1 → Serves cores k g (set slot a t) (record { left = rest; on_core_1 = g.on_core_1; next = record { 0 = t + 1 } })
+    lone_serves idle =
+        next_serves (set slot a t) rest g.on_core_1
+        (kept_alike k.size t (served 1) (set slot a t) rest kept_core_0 (served cores) (idle_alike cores J row t 1 cores (omega arith) (sym idle)))
+        (λ i l. rw (ne_eqb i (job_of 1) (λ q. omega arith)) (sym (or-false (has g.on_core_1 i))))
 
-      -- a job on each core
-      pub full_serves : (left' on_1 : ℕ) → b < size → Without rest b left' → With g.on_core_1 b on_1 →
-          Serves cores J row g (set (set slot a t) b t) (record { left = left'; on_core_1 = on_1; next = record { 0 = t + 1 } })
-      full_serves left' on_1 h less more =
-          next_serves (set (set slot a t) b t) left' on_1
-          (kept_job 1 (set slot a t) rest b left' kept_core_0 f h less)
-          (λ i l. rw (← f) (with_in g.on_core_1 b on_1 (omega (arith, s.few)) more i))
+    -- a job on each core
+    pub full_serves : (b left' on_1 : ℕ) → b ≡ job_of 1 → b < k.size → Without rest b left' → With g.on_core_1 b on_1 →
+        Serves cores k g (set (set slot a t) b t) (record { left = left'; on_core_1 = on_1; next = record { 0 = t + 1 } })
+    full_serves b left' on_1 f h less more =
+        next_serves (set (set slot a t) b t) left' on_1
+        (kept_job 1 (set slot a t) rest b left' kept_core_0 f h less)
+        (λ i l. rw (← f) (with_in g.on_core_1 b on_1 (omega (arith, s.few)) more i))

@@ -5,11 +5,11 @@ use mathlib.Core.Path.{◌≡◌, ap, ◌∙◌}
 use Prim.Native.Nat.{ℕ, ◌*◌, ◌≤◌, ◌<◌}
 use native.Mathlib.Omega.{arith}
 use lib.ListN.{length, get_or, drop}
+use Rattle.std.specs.Prelude.{Ok}
 use Rattle.schedule.proofs.Tests.{lt_by}
 use Rattle.refusal.proofs.Table.{table_past, table_refused}
 use Rattle.book.specs.Told.{Book, cores}
 use Rattle.plan.specs.declared.placed.Place.{Place}
-use Rattle.plan.specs.declared.placed.Placed.TheVariants.{At}
 use Rattle.plan.specs.Plan.{plan_of, finish_of, bytes_of, Plans}
 use Rattle.plan.specs.Placed.{values_of, Sites}
 use Rattle.plan.specs.Place.{core_of, end_of, spare_of, place_of, Places}
@@ -37,7 +37,7 @@ module _ (k : Book) (job : ℕ) where
       (y.2.0, ap (λ r. r.0) y.3 ∙ y.2.1, ap (λ r. r.1) y.3 ∙ ap (λ v. v ∷ []) y.2.2)
 
   -- a place told, value by value
-  pub place_told : (p : Place) → Sites (At p) (Places k job) →
+  pub place_told : (p : Place) → Sites (Ok p) (Places k job) →
       (job < k.size) × (p.slot.0 ≡ plan_of k job) × (p.core.0 ≡ core_of k job) × (p.end ≡ end_of k job) × (p.spare ≡ spare_of k job)
   place_told p x =
       let y = places_made _ x in

@@ -1,8 +1,7 @@
--- A walk over the jobs left that keeps the two best so far, and their latest times, makes the choice.
+-- A walk over the jobs left that keeps the two best so far makes the choice.
 -- Assumes nothing.
 use mathlib.Core.Bool.{Bool, true, false, cond, not, ◌&&◌, and-true, and-false}
-use mathlib.Core.List.{List}
-use mathlib.Core.Logic.{◌⊎◌, inl, inr, ⊎_elim}
+use mathlib.Core.Logic.{⊎_elim}
 use mathlib.Core.Path.{◌≡◌, refl, sym, ap, subst, ◌∙◌}
 use Prim.Native.Nat.{ℕ, ◌+◌, ◌≤◌, ◌<◌}
 use native.Mathlib.Decide.{le_ind}
@@ -10,176 +9,173 @@ use native.Mathlib.Numerals.{add-one}
 use native.Mathlib.Omega.{arith}
 use borrow.Author.Tests.{lt-ltb, le-ltb, le-leb, lt-leb, eq-eqb, ne_eqb}
 use lib.Dec.{T, eqb, leb, ltb}
-use lib.ListN.{get_or}
+use Rattle.std.specs.Prelude.{Option, Some, None, IfSome}
+use Rattle.schedule.specs.declared.JobIndex.{JobIndex}
 use Rattle.schedule.specs.Make.{choose}
 use Rattle.schedule.proofs.Loop.{choose_suc, choose_ext}
 use Rattle.schedule.proofs.Tests.{and_fst, same_test, le_by, le_or_lt}
-use Rattle.sets.specs.Sets.{has, Without, First, Rest}
-use Rattle.book.specs.Told.{row_in}
-use Rattle.plan.specs.Inner.Choice.{begins, ready_by, others, Chooses}
+use Rattle.sets.specs.Sets.{has}
+use Rattle.sets.specs.Walk.{Walks}
 use Rattle.sets.proofs.Bits.{empty_has, walk_sub, walk_split, walk_out}
-
--- the choice among the numbers below n, with its key; 65536, above every key, where there is none
-pub record Found (none : ℕ) (key : ℕ → ℕ) (ok : ℕ → Bool) (n c value : ℕ) : Type 0 where
-  pub chosen : c ≡ choose none key ok n
-  pub valued : ((c < n) × (value ≡ key c)) ⊎ ((c ≡ none) × (value ≡ 65536))
+use Rattle.book.specs.Told.{Book, latest_of}
+use Rattle.plan.specs.Inner.Choice.{begins, ready_by, others, number_or, sooner, Held, Picks, Chooses}
 
 module _ (none : ℕ) (key : ℕ → ℕ) (ok : ℕ → Bool) where
-  found_none : Found none key ok 0 none 65536
+  found_none : Picks none key ok 0 None
   unfolding choose
-  found_none = record { chosen = refl; valued = inr (refl, refl) }
+  found_none = record { chosen = refl; below = tt }
 
-  module _ (n best least : ℕ) (in_range : n < none) (f : Found none key ok n best least) where
-    -- the next step, by whether n passes and whether the best so far stays
-    step : (passes keeps : Bool) → ok n ≡ passes → (ltb best n && leb (key best) (key n)) ≡ keeps → choose none key ok (n + 1) ≡ cond (passes && not keeps) n best
-    step passes keeps p k =
-        ap (choose none key ok) (add-one n) ∙ choose_suc none key ok n
-        ∙ rw (← f.chosen) (simp (p, k))
+  module _ (n : ℕ) (in_range : n < none) where
+    -- the best so far stays where n is not before it
+    stays : (c : Option JobIndex) → IfSome c (λ job. job.0 < n) → (ltb (number_or none c) n && leb (key (number_or none c)) (key n)) ≡ not (sooner key n c)
+    stays None h = simp (le-ltb none n (omega arith))
+    stays (Some job) h = ⊎_elim
+        (λ le. simp (lt-ltb job.0 n h, le-leb (key job.0) (key n) le, le-ltb (key n) (key job.0) le))
+        (λ lt. simp (lt-ltb job.0 n h, lt-leb (key job.0) (key n) lt, lt-ltb (key n) (key job.0) lt))
+        (le_or_lt (key job.0) (key n))
 
-    longer : ((best < n) × (least ≡ key best)) ⊎ ((best ≡ none) × (least ≡ 65536)) → ((best < n + 1) × (least ≡ key best)) ⊎ ((best ≡ none) × (least ≡ 65536))
-    longer (inl x) = inl (omega (arith, x.0), x.1)
-    longer (inr x) = inr x
+    longer : (c : Option JobIndex) → IfSome c (λ job. job.0 < n) → IfSome c (λ job. job.0 < n + 1)
+    longer None h = tt
+    longer (Some job) h = omega (arith, h)
 
-    found_skip : ok n ≡ false → Found none key ok (n + 1) best least
-    found_skip p = record { chosen = sym (step false (ltb best n && leb (key best) (key n)) p refl); valued = longer f.valued }
+    module _ (c : Option JobIndex) (f : Picks none key ok n c) where
+      -- the next step, by whether n passes and whether it is before the best so far
+      step : (passes before : Bool) → ok n ≡ passes → sooner key n c ≡ before → choose none key ok (n + 1) ≡ cond (passes && not (not before)) n (number_or none c)
+      step passes before p k =
+          ap (choose none key ok) (add-one n) ∙ choose_suc none key ok n
+          ∙ rw (← f.chosen) (simp (p, stays c f.below, k))
 
-    found_keep : ok n ≡ true → least ≤ key n → key n < 65536 → Found none key ok (n + 1) best least
-    found_keep p h fits = record { chosen = sym (step true true p (keeps f.valued)); valued = longer f.valued }
-      where
-        keeps : ((best < n) × (least ≡ key best)) ⊎ ((best ≡ none) × (least ≡ 65536)) → (ltb best n && leb (key best) (key n)) ≡ true
-        keeps (inl x) = simp (lt-ltb best n x.0, le-leb (key best) (key n) (omega (arith, x.1)))
-        keeps (inr x) = absurd (omega (arith, x.1))
+      found_skip : ok n ≡ false → Picks none key ok (n + 1) c
+      found_skip p = record { chosen = sym (step false (sooner key n c) p refl); below = longer c f.below }
 
-    found_take : ok n ≡ true → key n < least → Found none key ok (n + 1) n (key n)
-    found_take p h = record { chosen = sym (step true false p (yields f.valued)); valued = inl (omega arith, refl) }
-      where
-        yields : ((best < n) × (least ≡ key best)) ⊎ ((best ≡ none) × (least ≡ 65536)) → (ltb best n && leb (key best) (key n)) ≡ false
-        yields (inl x) = simp (lt-ltb best n x.0, lt-leb (key best) (key n) (omega (arith, x.1)))
-        yields (inr x) = simp (le-ltb best n (omega (arith, x.0)))
+      found_keep : ok n ≡ true → sooner key n c ≡ false → Picks none key ok (n + 1) c
+      found_keep p h = record { chosen = sym (step true false p h); below = longer c f.below }
+
+      found_take : ok n ≡ true → sooner key n c ≡ true → Picks none key ok (n + 1) (Some (record { 0 = n }))
+      found_take p h = record { chosen = sym (step true true p h); below = omega arith }
 
   -- numbers that do not pass change nothing
-  found_up_to : (n m best least : ℕ) → n ≤ m → m ≤ none → Found none key ok n best least → ((j : ℕ) → n ≤ j → j < m → ok j ≡ false) → Found none key ok m best least
-  found_up_to n m best least l h f = le_ind
-      (λ m. m ≤ none → ((j : ℕ) → n ≤ j → j < m → ok j ≡ false) → Found none key ok m best least)
+  found_up_to : (n m : ℕ) (c : Option JobIndex) → n ≤ m → m ≤ none → Picks none key ok n c → ((j : ℕ) → n ≤ j → j < m → ok j ≡ false) → Picks none key ok m c
+  found_up_to n m c l h f = le_ind
+      (λ m. m ≤ none → ((j : ℕ) → n ≤ j → j < m → ok j ≡ false) → Picks none key ok m c)
       (λ h gap. f)
-      (λ m l ih h gap. subst (λ m. Found none key ok m best least) (add-one m) (found_skip m best least (omega arith) (ih (omega arith) (λ j x y. gap j x (omega arith))) (gap m l (omega arith))))
+      (λ m l ih h gap. subst (λ m. Picks none key ok m c) (add-one m) (found_skip m (omega arith) c (ih (omega arith) (λ j x y. gap j x (omega arith))) (gap m l (omega arith))))
       m l h
 
 -- tests that agree below n find the same there
-found_ext : (none : ℕ) (key : ℕ → ℕ) (ok ok' : ℕ → Bool) (n best least : ℕ) → ((j : ℕ) → j < n → ok j ≡ ok' j) → Found none key ok n best least → Found none key ok' n best least
-found_ext none key ok ok' n best least e f = record { chosen = f.chosen ∙ choose_ext none key key ok ok' n (λ j l. refl) e; valued = f.valued }
+found_ext : (none : ℕ) (key : ℕ → ℕ) (ok ok' : ℕ → Bool) (n : ℕ) (c : Option JobIndex) → ((j : ℕ) → j < n → ok j ≡ ok' j) → Picks none key ok n c → Picks none key ok' n c
+found_ext none key ok ok' n c e f = record { chosen = f.chosen ∙ choose_ext none key key ok ok' n (λ j l. refl) e; below = f.below }
+
+-- the best so far is not n
+not_best : (none n : ℕ) (c : Option JobIndex) → n < none → IfSome c (λ job. job.0 < n) → n ≡ number_or none c → ⊥
+not_best none n None l h e = omega arith
+not_best none n (Some job) l h e = omega (arith, h)
 
 -- ---- a walk over the jobs left alone, by rising number: `rest` are those from n on
-module _ (size : ℕ) (latest start before : List ℕ) (left t : ℕ) where
-  abbrev ok : ℕ → Bool
-  ok = ready_by start before left left t
+module _ (k : Book) (left t : ℕ) where
+  abbrev pub ok : ℕ → Bool
+  ok = ready_by k left left t
 
-  pub record Walked (rest a least b later : ℕ) : Type 0 where
+  abbrev pub rival : Option JobIndex → ℕ → Bool
+  rival best = others (number_or k.size best) ok
+
+  pub record Walked (rest : ℕ) (best next : Option JobIndex) : Type 0 where
     pub n : ℕ
-    pub short : n ≤ size
-    pub best : Found size (row_in latest) ok n a least
-    pub next : Found size (row_in latest) (others a ok) n b later
+    pub short : n ≤ k.size
+    pub first : Picks k.size (latest_of k) ok n best
+    pub second : Picks k.size (latest_of k) (rival best) n next
     pub sound : (j : ℕ) → T (has rest j) → T (has left j) × (n ≤ j)
     pub whole : (j : ℕ) → T (has left j) → n ≤ j → T (has rest j)
 
-  -- whether job k begins at t
-  abbrev begins_at : ℕ → Bool
-  begins_at k = begins (get_or start k 0) (get_or before k 0) left t
+  -- the walk one job on: it begins or not, and is before the two best so far, between them or after
+  pub record Onward (job : JobIndex) (less : ℕ) (best next : Option JobIndex) : Type 0 where
+    pub skipped : begins k left t job.0 ≡ false → Walked less best next
+    pub third : begins k left t job.0 ≡ true → sooner (latest_of k) job.0 best ≡ false → sooner (latest_of k) job.0 next ≡ false → Walked less best next
+    pub between : begins k left t job.0 ≡ true → sooner (latest_of k) job.0 best ≡ false → sooner (latest_of k) job.0 next ≡ true → Walked less best (Some job)
+    pub ahead : begins k left t job.0 ≡ true → sooner (latest_of k) job.0 best ≡ true → Walked less (Some job) best
 
-  -- the walk one job on: k begins or not, and is before the two best so far, between them or after
-  pub record Onward (k less a least b later : ℕ) : Type 0 where
-    pub skipped : false ≡ begins_at k → Walked less a least b later
-    pub third : true ≡ begins_at k → least ≤ get_or latest k 0 → later ≤ get_or latest k 0 → get_or latest k 0 < 65536 → Walked less a least b later
-    pub between : true ≡ begins_at k → least ≤ get_or latest k 0 → get_or latest k 0 < later → get_or latest k 0 < 65536 → Walked less a least k (get_or latest k 0)
-    pub ahead : true ≡ begins_at k → get_or latest k 0 < least → Walked less k (get_or latest k 0) a least
-
-  pub walked_none : Walked left size 65536 size 65536
+  pub walked_none : Walked left None None
   walked_none = record {
     n = 0;
     short = omega arith;
-    best = found_none size (row_in latest) ok;
-    next = found_none size (row_in latest) (others size ok);
+    first = found_none k.size (latest_of k) ok;
+    second = found_none k.size (latest_of k) (rival None);
     sound = λ j x. (x, omega arith);
     whole = λ j x l. x;
   }
 
-  module _ (rest a least b later : ℕ) (w : Walked rest a least b later) where
+  module _ (rest : ℕ) (best next : Option JobIndex) (w : Walked rest best next) where
     -- where no job of the rest is below `to`, no number from n up to it passes
-    module _ (to : ℕ) (l : w.n ≤ to) (h : to ≤ size) (none : (j : ℕ) → j < to → has rest j ≡ false) where
+    module _ (to : ℕ) (l : w.n ≤ to) (h : to ≤ k.size) (none : (j : ℕ) → j < to → has rest j ≡ false) where
       idle : (j : ℕ) → w.n ≤ j → j < to → ok j ≡ false
       idle j x y = same_test (ok j) false (λ z. subst T (none j y) (w.whole j (and_fst (has left j) _ z) x)) (λ z. absurd z)
 
-      best_at : Found size (row_in latest) ok to a least
-      best_at = found_up_to size (row_in latest) ok w.n to a least l h w.best idle
+      first_at : Picks k.size (latest_of k) ok to best
+      first_at = found_up_to k.size (latest_of k) ok w.n to best l h w.first idle
 
-      next_at : Found size (row_in latest) (others a ok) to b later
-      next_at = found_up_to size (row_in latest) (others a ok) w.n to b later l h w.next (λ j x y. ap (λ b. b && not (eqb j a)) (idle j x y))
+      second_at : Picks k.size (latest_of k) (rival best) to next
+      second_at = found_up_to k.size (latest_of k) (rival best) w.n to next l h w.second (λ j x y. ap (λ b. b && not (eqb j (number_or k.size best))) (idle j x y))
 
-    pub walked_all : rest ≡ 0 → Chooses size (row_in latest) ok a b
+    pub walked_all : rest ≡ 0 → Chooses k left t (record { best = best; next = next })
     walked_all e =
-        let none : (j : ℕ) → j < size → has rest j ≡ false = λ j l. rw e (empty_has j) in
-        record { best = (best_at size w.short (omega arith) none).chosen; next = (next_at size w.short (omega arith) none).chosen }
+        let none : (j : ℕ) → j < k.size → has rest j ≡ false = λ j l. rw e (empty_has j) in
+        record { best = first_at k.size w.short (omega arith) none; next = second_at k.size w.short (omega arith) none }
 
     -- the first job of the rest, and the rest without it
-    module _ (held : (j : ℕ) → T (has left j) → j < size) (k less : ℕ) (some : rest ≡ 0 → ⊥) (f : First rest k) (r : Rest rest less) where
-      met : T (has rest k)
-      met = (f.met some).1
+    module _ (held : Held k.size left) (job : JobIndex) (less : ℕ) (walk : Walks rest (Some job) less) where
+      abbrev i : ℕ
+      i = job.0
 
-      out : Without rest k less
-      out = r k f
+      in_left : T (has left i)
+      in_left = (w.sound i walk.member).0
 
-      in_left : T (has left k)
-      in_left = (w.sound k met).0
+      passes : (b : Bool) → begins k left t job.0 ≡ b → ok i ≡ b
+      passes b e = simp (same_test (has left i) true (λ x. tt) (λ x. in_left)) e
 
-      passes : (b : Bool) → b ≡ begins_at k → ok k ≡ b
-      passes b e = simp (same_test (has left k) true (λ x. tt) (λ x. in_left)) (sym e)
+      first_here : Picks k.size (latest_of k) ok i best
+      first_here = first_at i (w.sound i walk.member).1 (omega (arith, held i in_left)) walk.first.lowest
 
-      best_here : Found size (row_in latest) ok k a least
-      best_here = best_at k (w.sound k met).1 (omega (arith, held k in_left)) f.lowest
+      second_here : Picks k.size (latest_of k) (rival best) i next
+      second_here = second_at i (w.sound i walk.member).1 (omega (arith, held i in_left)) walk.first.lowest
 
-      next_here : Found size (row_in latest) (others a ok) k b later
-      next_here = next_at k (w.sound k met).1 (omega (arith, held k in_left)) f.lowest
+      new : (b : Bool) → ok i ≡ b → rival best i ≡ b
+      new b e = simp (ne_eqb i (number_or k.size best) (not_best k.size i best (held i in_left) first_here.below), and-true) e
 
-      -- k is not the best so far
-      new : (b : Bool) → ok k ≡ b → others a ok k ≡ b
-      new b e = simp (ne_eqb k a (λ q. ⊎_elim (λ x. omega (arith, x.0)) (λ x. omega (arith, x.0, held k in_left)) best_here.valued), and-true) e
-
-      on : (a' least' b' later' : ℕ) → Found size (row_in latest) ok (k + 1) a' least' → Found size (row_in latest) (others a' ok) (k + 1) b' later' →
-          Walked less a' least' b' later'
-      on a' least' b' later' x y = record {
-        n = k + 1;
-        short = omega (arith, held k in_left);
-        best = x;
-        next = y;
+      on : (a b : Option JobIndex) → Picks k.size (latest_of k) ok (i + 1) a → Picks k.size (latest_of k) (rival a) (i + 1) b → Walked less a b
+      on a b x y = record {
+        n = i + 1;
+        short = omega (arith, held i in_left);
+        first = x;
+        second = y;
         sound = λ j x.
-            let y : T (has rest j) = walk_sub rest less k out j x in (
+            let y : T (has rest j) = walk_sub rest less i walk.left j x in (
               (w.sound j y).0,
-              le_by (k + 1) j (λ l. ⊎_elim
-                  (λ h. walk_out rest less k out (let e : j ≡ k = omega arith in subst (λ i. T (has less i)) e x))
-                  (λ h. subst T (f.lowest j h) y)
-                  (le_or_lt k j)),
+              le_by (i + 1) j (λ l. ⊎_elim
+                  (λ h. walk_out rest less i walk.left (let e : j ≡ i = omega arith in subst (λ u. T (has less u)) e x))
+                  (λ h. subst T (walk.first.lowest j h) y)
+                  (le_or_lt i j)),
             );
-        whole = λ j x l. ⊎_elim (λ e. absurd (omega arith)) (λ y. y) (walk_split rest less k out j (w.whole j x (omega (arith, (w.sound k met).1))));
+        whole = λ j x l. ⊎_elim (λ e. absurd (omega arith)) (λ y. y) (walk_split rest less i walk.left j (w.whole j x (omega (arith, (w.sound i walk.member).1))));
       }
 
-      -- where k comes first, the best so far is the best of the others
-      passed : Found size (row_in latest) (others k ok) (k + 1) a least
-      passed = found_skip size (row_in latest) (others k ok) k a least (held k in_left)
-          (found_ext size (row_in latest) ok (others k ok) k a least (λ j l. sym (simp (ne_eqb j k (λ q. omega arith), and-true))) best_here)
-          (simp (eq-eqb k k refl, and-false))
+      -- where the job comes first, the best so far is the best of the others
+      passed : Picks k.size (latest_of k) (rival (Some job)) (i + 1) best
+      passed = found_skip k.size (latest_of k) (rival (Some job)) i (held i in_left) best
+          (found_ext k.size (latest_of k) ok (rival (Some job)) i best (λ j l. sym (simp (ne_eqb j i (λ q. omega arith), and-true))) first_here)
+          (simp (eq-eqb i i refl, and-false))
 
-      pub walked_on : Onward k less a least b later
+      pub walked_on : Onward job less best next
       walked_on = record {
-        skipped = λ e. on a least b later
-            (found_skip size (row_in latest) ok k a least (held k in_left) best_here (passes false e))
-            (found_skip size (row_in latest) (others a ok) k b later (held k in_left) next_here (new false (passes false e)));
-        third = λ e h g fits. on a least b later
-            (found_keep size (row_in latest) ok k a least (held k in_left) best_here (passes true e) h fits)
-            (found_keep size (row_in latest) (others a ok) k b later (held k in_left) next_here (new true (passes true e)) g fits);
-        between = λ e h g fits. on a least k (get_or latest k 0)
-            (found_keep size (row_in latest) ok k a least (held k in_left) best_here (passes true e) h fits)
-            (found_take size (row_in latest) (others a ok) k b later (held k in_left) next_here (new true (passes true e)) g);
-        ahead = λ e h. on k (get_or latest k 0) a least
-            (found_take size (row_in latest) ok k a least (held k in_left) best_here (passes true e) h)
+        skipped = λ e. on best next
+            (found_skip k.size (latest_of k) ok i (held i in_left) best first_here (passes false e))
+            (found_skip k.size (latest_of k) (rival best) i (held i in_left) next second_here (new false (passes false e)));
+        third = λ e h g. on best next
+            (found_keep k.size (latest_of k) ok i (held i in_left) best first_here (passes true e) h)
+            (found_keep k.size (latest_of k) (rival best) i (held i in_left) next second_here (new true (passes true e)) g);
+        between = λ e h g. on best (Some job)
+            (found_keep k.size (latest_of k) ok i (held i in_left) best first_here (passes true e) h)
+            (found_take k.size (latest_of k) (rival best) i (held i in_left) next second_here (new true (passes true e)) g);
+        ahead = λ e h. on (Some job) best
+            (found_take k.size (latest_of k) ok i (held i in_left) best first_here (passes true e) h)
             passed;
       }

@@ -75,8 +75,8 @@ module _ (k : Book) (m : Made k) (r : Layout) (x : Lays k r) where
       omega (arith, y.0, y.1, site_is i l)
 
   -- every job's byte is among the bytes lent
-  pub plan_writable : (size : ℕ) (out : List ℕ) → size ≡ k.size → cores * r.finish ≤ length out → Writable size r.slot out
-  plan_writable size out many h = rw many (record { few = m.1.shaped.few; room = λ i l. omega (arith, x.at i l, x.ends, (book_plan k m).within i l) })
+  pub plan_writable : (out : List ℕ) → cores * r.finish ≤ length out → Writable k.size r.slot out
+  plan_writable out h = record { few = m.1.shaped.few; room = λ i l. omega (arith, x.at i l, x.ends, (book_plan k m).within i l) }
 
   module _ (out : List ℕ) (room : end ≤ length out) where
     abbrev so_far : ℕ → List ℕ
@@ -150,7 +150,7 @@ module _ (k : Book) (m : Made k) (r : Layout) (x : Lays k r) where
           let q : p ≡ cores * (p / cores) + p % cores = omega arith in
           ap (λ y. get_or ys y 0) q ∙ bytes_at (jobs_of k) (latest_of k) unplaced (finish_of k) (p / cores) (p % cores) 0 (omega arith) (omega arith)
 
-  -- the same, as the code reads the size and the finishing time
-  pub plan_written : (size n : ℕ) (old : List ℕ) → size ≡ k.size → n ≡ finish_of k → cores * n ≤ length old →
-      seated r.slot r.on_core_1 size (replicate (cores * n) 255 ++ drop (cores * n) old) ≡ bytes_of k ++ drop end old
-  plan_written size n old many e h = rw (many, e) (seated_bytes old (omega arith))
+  -- the same, as the code reads the finishing time
+  pub plan_written : (old : List ℕ) → cores * r.finish ≤ length old →
+      seated r.slot r.on_core_1 k.size (replicate (cores * r.finish) 255 ++ drop (cores * r.finish) old) ≡ bytes_of k ++ drop end old
+  plan_written old h = rw x.ends (seated_bytes old (omega (arith, x.ends)))

@@ -1,89 +1,72 @@
 // The choice of the next jobs for a slot.
-ghost use Rattle.std.specs.Prelude.{◌≡◌, ◌≤◌, ◌<◌, length, get_or};
-ghost use Rattle.book.specs.Told.{row_in};
+ghost use Rattle.std.specs.Prelude.{◌≡◌, ◌<◌, IfSome};
+ghost use Rattle.book.specs.Told.{row_in, latest_of};
 ghost use Rattle.plan.specs.Plan.{horizon};
-ghost use Rattle.plan.specs.Inner.Choice.{begins, ready_by, Choosing, Chooses, Wakes};
+ghost use Rattle.plan.specs.Inner.Rows.{told_by};
+ghost use Rattle.plan.specs.Inner.Choice.{begins, sooner, Held, Chooses, Wakes};
 
-use crate::HORIZON;
-use crate::times::time_at;
-use book::Before;
+use crate::rows::Rows;
 use schedule::{JobIndex, SlotTime};
+
+// No plan has a slot from here on.
+const HORIZON: usize = 4096;
 
 // The first job in order, and the first of the others.
 #[derive(Clone, Copy)]
 pub struct Chosen {
-    pub best: JobIndex,
-    pub next: JobIndex,
+    pub best: Option<JobIndex>,
+    pub next: Option<JobIndex>,
 }
 
-// Above every latest time.
-const NEVER: usize = 65536;
-
-// Of the jobs left that can begin at t, the first two by latest time, then by number; `size` for none.
-pub fn next_jobs(
-    size: usize,
-    start: &[u16],
-    latest: &[u16],
-    before: &Before,
-    left: u64,
-    t: SlotTime,
-) -> Chosen
-    requires { Choosing size start.now latest.now left }
-    ensures { Chooses size (row_in latest.now) (ready_by start.now before.now left left t.0) result.best.0 result.next.0 }
-{
-    let mut best = size;
-    let mut least = NEVER;
-    let mut next = size;
-    let mut later = NEVER;
-    let mut rest = left;
-    while rest != 0 {
-        let i = sets::first(rest).0;
-        if ready(i, start, before, left, t) {
-            let due = time_at(latest, i);
-            if due < least {
-                next = best;
-                later = least;
-                best = i;
-                least = due;
-            } else if due < later {
-                next = i;
-                later = due;
+impl Rows<'_> {
+    // Of the jobs left that can begin at t, the first two by latest time, then by number.
+    pub fn next_jobs(&self, left: u64, t: SlotTime) -> Chosen
+        requires { Held self.now.size left }
+        ensures { Chooses (told_by self.now) left t.0 result }
+    {
+        let mut best = None;
+        let mut next = None;
+        for job in sets::Jobs(left) {
+            if self.ready(job, left, t) {
+                if self.sooner(job, best) {
+                    next = best;
+                    best = Some(job);
+                } else if self.sooner(job, next) {
+                    next = Some(job);
+                }
             }
         }
-        rest = sets::rest(rest);
+        Chosen { best, next }
     }
-    Chosen {
-        best: JobIndex(best),
-        next: JobIndex(next),
-    }
-}
 
-// Whether a job has its start at most t and no predecessor undone.
-fn ready(i: usize, start: &[u16], before: &Before, undone: u64, t: SlotTime) -> bool
-    requires { (i < 64) × (i < length start.now) }
-    ensures { result ≡ begins (get_or start.now i 0) (get_or before.now i 0) undone t.0 }
-{
-    if time_at(start, i) <= t.0 {
-        return before[i] & undone == 0;
+    // Whether a job has its start at most t and no predecessor undone.
+    fn ready(&self, job: JobIndex, undone: u64, t: SlotTime) -> bool
+        requires { job.0 < 64 }
+        ensures { result ≡ begins (told_by self.now) undone t.0 job.0 }
+    {
+        usize::from(self.start[job.0]) <= t.0 && self.before[job.0] & undone == 0
     }
-    false
-}
 
-// The first start after t, the horizon if there is none.
-pub fn next_start(size: usize, start: &[u16], t: SlotTime) -> SlotTime
-    requires { (size ≤ length start.now) × (t.0 < horizon) }
-    ensures { Wakes size (row_in start.now) t.0 result.0 }
-{
-    let mut next: usize = HORIZON;
-    let mut i: usize = 0;
-    while i < size {
-        let begin = time_at(start, i);
-        if begin > t.0 {
-            if begin < next {
-                next = begin;
+    // Whether a job's latest time is below another's; any is below none.
+    fn sooner(&self, job: JobIndex, other: Option<JobIndex>) -> bool
+        requires { (job.0 < 64) × IfSome other (λ other. other.0 < 64) }
+        ensures { result ≡ sooner (latest_of (told_by self.now)) job.0 other }
+    {
+        other.is_none_or(|other| self.latest[job.0] < self.latest[other.0])
+    }
+
+    // The first start after t, the horizon if there is none; no Option, since the walk over slots ends at the horizon too.
+    pub fn next_start(&self, t: SlotTime) -> SlotTime
+        requires { t.0 < horizon }
+        ensures { Wakes self.now.size (row_in self.now.start.now) t.0 result.0 }
+    {
+        let mut next = HORIZON;
+        for &start in &self.start[..self.size] {
+            let begin = usize::from(start);
+            if begin > t.0 {
+                next = next.min(begin);
             }
         }
-        i += 1;
+        SlotTime(next)
     }
-    SlotTime(next)
 }

@@ -1,14 +1,14 @@
 // The layout of a plan: each job's slot and core, found slot by slot.
-ghost use Rattle.std.specs.Prelude.{◌≡◌};
-ghost use Rattle.book.specs.Told.{Made, book_in, jobs_in, row_in, cores};
+ghost use Rattle.std.specs.Prelude.{◌≡◌, ◌<◌, get_or};
+ghost use Rattle.book.specs.Told.{Made, cores};
+ghost use Rattle.plan.specs.Inner.Rows.{told_by};
 ghost use Rattle.plan.specs.Inner.Layout.{Serving, Serves, Lays, core_in};
 
-use crate::times::size_of;
-use crate::{UNPLACED, choice};
-use book::{Before, Times};
+use crate::choice::Chosen;
+use crate::rows::Rows;
 use schedule::{CoreIndex, JobIndex, SlotTime};
 
-// Each job's slot, the jobs on core 1, and the finishing time.
+// Each job's slot, 0 before it is placed, the jobs on core 1, and the finishing time.
 #[derive(Clone, Copy)]
 pub struct Layout {
     pub slot: [u16; 64],
@@ -24,71 +24,70 @@ pub struct Stage {
     pub next: SlotTime,
 }
 
-// Slot after slot until every job is placed.
-pub fn lay_out(times: &Times, before: &Before) -> Layout
-    requires { Made (book_in times.now before.now) }
-    ensures { Lays (book_in times.now before.now) result }
-{
-    let size = size_of(times);
-    let start = book::starts(times);
-    let latest = book::latest(times);
-    let mut slot = [UNPLACED; 64];
-    let mut stage = Stage {
-        left: sets::below(size),
-        on_core_1: 0,
-        next: SlotTime(0),
-    };
-    while stage.left != 0 {
-        stage = serve(size, start, latest, before, &mut slot, stage);
+impl Layout {
+    pub fn slot_of(&self, job: JobIndex) -> SlotTime
+        requires { job.0 < 64 }
+        ensures { result.0 ≡ get_or self.now.slot job.0 0 }
+    {
+        SlotTime(usize::from(self.slot[job.0]))
     }
-    Layout {
-        slot: slot,
-        on_core_1: stage.on_core_1,
-        finish: stage.next.0,
+
+    pub fn core_of(&self, job: JobIndex) -> CoreIndex
+        ensures { result.0 ≡ core_in self.now.on_core_1 job.0 }
+    {
+        CoreIndex(usize::from(sets::has(self.on_core_1, job)))
     }
 }
 
-// One slot: core 0 and then core 1 takes a job. What goes to core 0 is still undone for core 1. A slot with no job ends where a job starts.
-fn serve(
-    size: usize,
-    start: &[u16],
-    latest: &[u16],
-    before: &Before,
-    slot: &mut [u16; 64],
-    stage: Stage,
-) -> Stage
-    requires { Serving cores size start.now latest.now before.now slot.old stage }
-    ensures { Serves cores (jobs_in size start.now before.now) (row_in latest.now) stage slot.new result }
-{
-    let left = stage.left;
-    let t = stage.next;
-    let mut after = stage;
-    let chosen = choice::next_jobs(size, start, latest, before, left, t);
-    let a = chosen.best.0;
-    if a >= size {
-        after.next = choice::next_start(size, start, t);
-        return after;
+impl Rows<'_> {
+    // Slot after slot until every job is placed.
+    pub fn lay_out(&self) -> Layout
+        requires { Made (told_by self.now) }
+        ensures { Lays (told_by self.now) result }
+    {
+        let mut slot = [0; 64];
+        let mut stage = Stage {
+            left: sets::below(self.size),
+            on_core_1: 0,
+            next: SlotTime(0),
+        };
+        while stage.left != 0 {
+            stage = self.serve(&mut slot, stage);
+        }
+        Layout {
+            slot,
+            on_core_1: stage.on_core_1,
+            finish: stage.next.0,
+        }
     }
-    slot[a] = t.0 as u16;
-    let next = SlotTime(t.0 + 1);
-    after.next = next;
-    after.left = sets::without(left, chosen.best);
-    let b = chosen.next.0;
-    if b >= size {
-        return after;
-    }
-    slot[b] = t.0 as u16;
-    after.left = sets::without(after.left, chosen.next);
-    after.on_core_1 = sets::with(after.on_core_1, chosen.next);
-    after
-}
 
-// The core of a job, by the set of those on core 1.
-pub fn core_of(on_core_1: u64, job: JobIndex) -> CoreIndex
-    ensures { result.0 ≡ core_in on_core_1 job.0 }
-{
-    if sets::has(on_core_1, job) {
-        return CoreIndex(1);
+    // One slot: core 0 and then core 1 takes a job. What goes to core 0 is still undone for core 1. A slot with no job ends where a job starts.
+    fn serve(&self, slot: &mut [u16; 64], stage: Stage) -> Stage
+        requires { Serving cores (told_by self.now) slot.old stage }
+        ensures { Serves cores (told_by self.now) stage slot.new result }
+    {
+        let t = stage.next;
+        let Chosen { best, next } = self.next_jobs(stage.left, t);
+        let Some(first) = best else {
+            return Stage {
+                next: self.next_start(t),
+                ..stage
+            };
+        };
+        slot[first.0] = t.0 as u16;
+        let alone = Stage {
+            left: sets::without(stage.left, first),
+            next: SlotTime(t.0 + 1),
+            ..stage
+        };
+        let Some(second) = next else {
+            return alone;
+        };
+        slot[second.0] = t.0 as u16;
+        Stage {
+            left: sets::without(alone.left, second),
+            on_core_1: sets::with(alone.on_core_1, second),
+            ..alone
+        }
     }
-    CoreIndex(0)
 }

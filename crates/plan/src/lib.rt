@@ -6,7 +6,7 @@ mod bytes;
 mod choice;
 mod layout;
 mod placed;
-mod times;
+mod rows;
 
 ghost use Rattle.std.specs.Prelude.{◌≡◌};
 ghost use Rattle.refusal.specs.Says.{Says};
@@ -17,31 +17,28 @@ ghost use Rattle.plan.specs.Placed.{Sites};
 ghost use Rattle.plan.specs.Place.{Places};
 
 use book::{Before, CORES, Times};
-pub use placed::{Place, Placed};
-use refusal::Answer;
+pub use placed::Place;
+use refusal::{Answer, Reason, Refusal};
+use rows::Rows;
 use schedule::{JobIndex, SlotTime};
-use times::{size_of, time_at};
 
-// No plan has a slot from here on.
-const HORIZON: usize = 4096;
-
-// The slot of a job not placed.
-const UNPLACED: u16 = 4096;
-
-// Two bytes a slot, core 0 first, 255 for an idle core, from slot 0 to the finishing time.
+// Two bytes a slot, core 0 first, 255 for an idle core, from slot 0 to the finishing time. The parts of a book stay apart in the public calls: the C interface lends them so.
 pub fn plan(times: &Times, before: &Before, out: &mut [u8]) -> Answer
     requires { Made (book_in times.now before.now) }
     ensures { Says result (Plans (book_in times.now before.now) out.old out.new) }
 {
-    let laid = layout::lay_out(times, before);
-    let finish = laid.finish;
-    let needed = CORES * finish;
+    let rows = Rows::of(times, before);
+    let laid = rows.lay_out();
+    let needed = CORES * laid.finish;
     if out.len() < needed {
-        return Answer::Refused(8, needed);
+        return Err(Refusal {
+            reason: Reason::NoRoom,
+            value: needed,
+        });
     }
-    bytes::clear(out, needed);
-    bytes::write(out, size_of(times), &laid.slot, laid.on_core_1);
-    Answer::Accepted(finish)
+    out[..needed].fill(255);
+    bytes::write(out, rows.size, &laid);
+    Ok(laid.finish)
 }
 
 // The bytes of the slots from a up to b, as that part of the plan lent.
@@ -50,33 +47,28 @@ pub fn span<'a>(plan: &'a [u8], from: SlotTime, to: SlotTime) -> &'a [u8]
 {
     let a = from.0;
     let b = to.0;
-    if a <= b {
-        if b <= plan.len() / CORES {
-            let start = CORES * a;
-            let end = CORES * b;
-            return &plan[start..end];
-        }
+    if a <= b && b <= plan.len() / CORES {
+        return &plan[CORES * a..CORES * b];
     }
-    &plan[0..0]
+    &[]
 }
 
 // The place of a job: its slot, its core, its end and its spare.
-pub fn place(times: &Times, before: &Before, job: JobIndex) -> Placed
+pub fn place(times: &Times, before: &Before, job: JobIndex) -> Result<Place, Refusal>
     requires { Made (book_in times.now before.now) }
     ensures { Sites result (Places (book_in times.now before.now) job.0) }
 {
-    let i = job.0;
-    if i >= size_of(times) {
-        return Placed::Refused(5, 0);
+    let rows = Rows::of(times, before);
+    if job.0 >= rows.size {
+        return Err(Reason::NotHeld.into());
     }
-    let laid = layout::lay_out(times, before);
-    let slot = time_at(&laid.slot, i);
-    let end = slot + 1;
-    let spare = time_at(book::latest(times), i) - end;
-    Placed::At(Place {
-        slot: SlotTime(slot),
-        core: layout::core_of(laid.on_core_1, job),
-        end: end,
-        spare: spare,
+    let laid = rows.lay_out();
+    let slot = laid.slot_of(job);
+    let end = slot.0 + 1;
+    Ok(Place {
+        slot,
+        core: laid.core_of(job),
+        end,
+        spare: usize::from(rows.latest[job.0]) - end,
     })
 }

@@ -1,7 +1,7 @@
 -- A request that passes its checks, and leaves a list that has a plan, has an outcome, and is accepted.
 -- Assumes nothing.
 use mathlib.Core.Bool.{cond}
-use mathlib.Core.List.{List}
+use mathlib.Core.List.{List, map}
 use mathlib.Core.Logic.{◌⊎◌, inl, inr, ⊎_elim}
 use mathlib.Core.Path.{◌≡◌, refl, ◌∙◌}
 use Prim.Native.Nat.{ℕ, ◌+◌, ◌≤◌, ◌<◌}
@@ -9,6 +9,8 @@ use native.Mathlib.Omega.{arith}
 use borrow.Author.Tests.{lt-ltb, le-ltb}
 use lib.Bits.{bit_or}
 use lib.Dec.{T, ltb}
+use Rattle.std.specs.List.{range_with_len}
+use Rattle.std.proofs.lemmas.List.FromFn.{length-map-range_with_len, get_or-map-range_with_len}
 use lib.ListN.{length, get_or, set, get_or-eq_default}
 use Rattle.schedule.specs.Jobs.{Jobs}
 use Rattle.schedule.specs.Times.{Latest}
@@ -23,7 +25,7 @@ use Rattle.sets.specs.Sets.{has}
 use Rattle.book.specs.Told.{Book, jobs_of, latest_of, row_in, Told}
 use Rattle.planner.specs.Requests.{Plannable, loop_checks, Sound, Applied, answered, Applies}
 use Rattle.planner.specs.declared.chains.Pending.{Pending}
-use Rattle.planner.specs.Inner.Chains.{Links, entries, joined_rows}
+use Rattle.planner.specs.Inner.Chains.{Links, joined_rows}
 use Rattle.sets.proofs.Bits.{only}
 use Rattle.sets.proofs.Range.{with_is}
 use Rattle.schedule.proofs.Readings.{reads_one, plan_one}
@@ -33,18 +35,18 @@ use Rattle.planner.proofs.Orders.{loop_left}
 use Rattle.planner.proofs.Outcome.{applies_by}
 use Rattle.planner.proofs.Growing.{Grows, size_is, job_grows, order_held, order_free, order_grows, followed_told, told_last, Tight, tight_last}
 use Rattle.book.proofs.Parts.{with_latest}
-use Rattle.planner.proofs.Pending.{entries_length, entries_at, rows_long, joined_links}
+use Rattle.planner.proofs.Pending.{rows_long, joined_links}
 
 -- ---- the latest times of a grown book, in a row of 64
 tight_exists : (L : Listed) (grown : Book) → Grows L grown → Plannable L → (row : List ℕ) × Tight grown row
 tight_exists L grown g p = (
-  entries 64 entry,
+  row 64,
   record {
-    size = entries_length 64 entry;
-    rest = λ i l. ⊎_elim (λ le. get_or-eq_default (entries 64 entry) 0 (omega (arith, entries_length 64 entry))) (λ lt. entries_at 64 entry i lt ∙ simp (le-ltb i grown.size l)) (le_or_lt 64 i);
-    latest = λ early e. latest_along 2 J J (λ i. i) (λ i. i) (reads_one L J J g.onward.reads g.onward.reads) g.onward.early early (latest_of grown) (latest_of grown) x.0 (row_in (entries 64 entry))
+    size = length-map-range_with_len entry 0 64;
+    rest = λ i l. ⊎_elim (λ le. get_or-eq_default (row 64) 0 {n = i} (omega (arith, length-map-range_with_len entry 0 64))) (λ lt. at 64 i lt ∙ simp (le-ltb i grown.size l)) (le_or_lt 64 i);
+    latest = λ early e. latest_along 2 J J (λ i. i) (λ i. i) (reads_one L J J g.onward.reads g.onward.reads) g.onward.early early (latest_of grown) (latest_of grown) x.0 (row_in (row 64))
         (λ i l. earliest_one J early g.onward.early e g.onward.earliest i l) (λ i l. refl)
-        (λ i l. entries_at 64 entry i (omega (arith, g.shaped.few)) ∙ simp (lt-ltb i grown.size l)) x.1;
+        (λ i l. at 64 i (omega (arith, g.shaped.few)) ∙ simp (lt-ltb i grown.size l)) x.1;
   },
 )
   where
@@ -59,6 +61,12 @@ tight_exists L grown g p = (
 
     entry : ℕ → ℕ
     entry i = cond (ltb i grown.size) (x.0 i) 0
+
+    row : ℕ → List ℕ
+    row n = map entry (range_with_len 0 n)
+
+    at : (n i : ℕ) → i < n → get_or (row n) i 0 ≡ entry i
+    at n i l = get_or-map-range_with_len entry 0 n i i 0 l (omega arith)
 
 -- ---- rows joined by an order
 links_exist : (old : List ℕ) (a b : ℕ) → length old ≡ 64 → a < 64 → b < 64 → (new : List ℕ) × (length new ≡ 64) × Links a b old new

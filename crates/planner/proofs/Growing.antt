@@ -3,8 +3,8 @@
 use mathlib.Core.Path.{◌≡◌, refl, sym, ap, subst, ◌∙◌, fun_ext}
 use mathlib.Core.Bool.{Bool, true, false}
 use mathlib.Core.List.{List, [], ◌∷◌}
-use mathlib.Core.Logic.{◌⊎◌, inl, inr, ⊎_elim}
-use Prim.Native.Nat.{ℕ, zero, suc, ◌+◌, min, ◌≤◌, ◌<◌}
+use mathlib.Core.Logic.{◌⊎◌, inl, inr, ⊎_elim, ◌↔◌}
+use Prim.Native.Nat.{ℕ, suc, ◌+◌, min, ◌≤◌, ◌<◌}
 use native.Mathlib.Omega.{arith}
 use lib.Dec.{T}
 use lib.ListN.{length, get_or, set, length-set, length-append, get_or-eq_default}
@@ -12,6 +12,7 @@ use lib.Seq.{get_or-set_same, get_or-set_other}
 use Rattle.schedule.specs.Row.{put}
 use Rattle.schedule.specs.Listed.{Listed, Chain, written, with_job, with_order, with_deadline}
 use Rattle.schedule.specs.Grow.{Added, Linked}
+use Rattle.schedule.specs.Plan.{HasPlan}
 use Rattle.schedule.specs.Times.{Earliest, Latest}
 use Rattle.schedule.proofs.Tests.{le_or_lt}
 use Rattle.schedule.proofs.Rows.{put_all, put_other}
@@ -85,20 +86,14 @@ tight_last L k grown told value row e g t = told_last L value told k (with_lates
   holds = g.onward.holds (λ i. get_or row i 0) (t.latest g.onward.early g.onward.earliest);
 })
 
-module _ (L : Listed) (k grown : Book) (value : ℕ) (row : List ℕ) (fits : Bool) (g : Grows L grown) (t : Tightens cores grown.size grown.start grown.before grown.latest row fits) where
+module _ (L : Listed) (k grown : Book) (value : ℕ) (g : Grows L grown) where
   -- a row that the engine gave back is taken
-  pub fits_last : (b : Book) (told : ℕ) → b ≡ with_latest grown row → told ≡ value → fits ≡ true → Last L value k (answered b 0 told)
-  fits_last b told s e y = rw s (tight_last L k grown told value row e g (record { size = t.length; rest = λ i l. t.rest y i l ∙ g.shaped.latest_rest i l; latest = t.latest y }))
+  pub fits_last : (row : List ℕ) → Tightens cores grown.size grown.start grown.before grown.latest row true → (b : Book) (told : ℕ) → b ≡ with_latest grown row → told ≡ value → Last L value k (answered b 0 told)
+  fits_last row t b told s e = rw s (tight_last L k grown told value row e g (record { size = t.length; rest = λ i l. t.rest refl i l ∙ g.shaped.latest_rest i l; latest = t.latest refl }))
 
   -- or the request is refused
-  pub none_last : (b : Book) → b ≡ k → fits ≡ false → Last L value k (answered b 4 0)
-  none_last b s n = refused 4 0 ((λ p. t.none n (g.onward.plans (plan_one 2 L p.0 (jobs_of grown) (written L) p.1 g.onward.reads p.2))), refl, refl) (ap (λ (k : Book). answered k 4 0) s)
-
--- an entry stored and put back
-pub set_back : (l : List ℕ) (k v : ℕ) → set (set l k v) k (get_or l k 0) ≡ l
-set_back [] k v = refl
-set_back (x ∷ xs) zero v = refl
-set_back (x ∷ xs) (suc k) v = ap (λ (l : List ℕ). x ∷ l) (set_back xs k v)
+  pub none_last : (HasPlan cores (jobs_of grown) (latest_of grown) → ⊥) → (b : Book) → b ≡ k → Last L value k (answered b 4 0)
+  none_last none b s = refused 4 0 ((λ p. none (g.onward.plans (plan_one 2 L p.0 (jobs_of grown) (written L) p.1 g.onward.reads p.2))), refl, refl) (ap (λ (k : Book). answered k 4 0) s)
 
 -- a stored entry, as a row
 set_put : (l : List ℕ) (k v : ℕ) → k < length l → (λ i. get_or (set l k v) i 0) ≡ put (λ i. get_or l i 0) k v
@@ -176,12 +171,12 @@ module _ (L : Listed) (k : Book) (t : Told k L) where
     pub order_held : Clear (held_checks 0 (length L.starts) a b)
     order_held = held_clear 0 (length L.starts) a b (omega (arith, size_is)) (omega (arith, size_is))
 
-    -- b precedes a, or neither closes a loop
-    pub order_back : has (get_or k.before a 0) b ≡ true → Chain L.orders b a
-    order_back e = (t.holds.reads.before b a lb la).0 (true_T _ e)
+    -- the rows have b before a exactly where orders lead there
+    pub order_reads : T (has (get_or k.before a 0) b) ↔ Chain L.orders b a
+    order_reads = t.holds.reads.before b a lb la
 
     pub order_free : (a ≡ b → ⊥) → (T (has (get_or k.before a 0) b) → ⊥) → Clear (loop_checks 0 L.orders a b)
-    order_free apart free = loop_clear 0 L.orders a b apart (λ x. free ((t.holds.reads.before b a lb la).1 x))
+    order_free apart free = loop_clear 0 L.orders a b apart (λ x. free (order_reads.1 x))
 
     -- that already follows
     pub followed_told : T (has (get_or k.before b 0) a) → Told k (with_order L a b)

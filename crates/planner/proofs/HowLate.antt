@@ -16,7 +16,7 @@ use Rattle.schedule.specs.Jobs.{Jobs}
 use Rattle.schedule.specs.Plan.{HasPlan}
 use Rattle.schedule.specs.Listed.{Listed, Reads, written}
 use Rattle.schedule.specs.Late.{Lateness, moved, InLimits, Ranged}
-use Rattle.schedule.specs.Shortest.{capped}
+use Rattle.schedule.specs.Shortest.{Shortest, capped}
 use Rattle.schedule.specs.Theory.Lowest.{Lowest, Narrowed}
 use Rattle.schedule.proofs.Tests.{le_by}
 use Rattle.schedule.proofs.Early.{exists_earliest}
@@ -24,24 +24,21 @@ use Rattle.schedule.proofs.Chains.{reads_closed, reads_loopless}
 use Rattle.schedule.proofs.Readings.{plan_one}
 use Rattle.schedule.proofs.Late.{lateness_iff, lateness_one, lateness_same, late_outset, lateness_ranged}
 use Rattle.schedule.proofs.Shortest.{shortest_iff, shortest_one, shortest_same, shortest_empty, short_outset}
-use Rattle.refusal.specs.Table.{check, ◌then◌, Refuses, refused, passed, One, Table}
-use Rattle.refusal.specs.declared.Answer.{Answer}
-use Rattle.refusal.specs.Says.{Says}
+use Rattle.refusal.specs.Table.{check, ◌then◌, Refuses, refused, passed, One}
+use Rattle.std.specs.Prelude.{Result, Ok, Err, ⊤}
+use Rattle.refusal.specs.declared.Refusal.{Refusal}
+use Rattle.refusal.specs.Says.{Says, refused_by}
 use Rattle.refusal.proofs.Table.{Each, each_map, among_each, then_table, table_one, table_past}
-use Rattle.refusal.proofs.Says.{says_more, says_only}
+use Rattle.refusal.proofs.Says.{number_within, number_one, says_only}
 use Rattle.book.specs.Told.{cores, jobs_in, row_in}
-use Rattle.planner.specs.Requests.{plan_check}
 use Rattle.planner.specs.List.{list_of, Uneven, entries_checks}
 use Rattle.planner.specs.Late.{Lates, late_checks, from_origin, LateAs, Latens, lone_checks, short_checks, ShortAs, Shortens}
-use Rattle.planner.specs.declared.late.Late.{Late}
-use Rattle.planner.specs.declared.late.Late.TheVariants.{By, Refused}
-use Rattle.planner.specs.declared.late.Trial.TheVariants.{Moved, Capped}
-use Rattle.planner.specs.Inner.Entries.{Spells}
+use Rattle.planner.specs.Inner.Entries.{Spells, Checked}
 use Rattle.planner.specs.Inner.List.{Judgeable}
-use Rattle.planner.specs.Inner.Late.{Leaves, Ends}
+use Rattle.planner.specs.Inner.Late.{moved_by, capped_at, Leaves}
 use Rattle.planner.proofs.Outcome.{sound_number, sound_some}
 use Rattle.planner.proofs.ListOutcome.{entries_numbers}
-use Rattle.planner.proofs.ListSound.{Sound, loopless, even_by, sound_entries, reads}
+use Rattle.planner.proofs.ListSound.{Sound, loopless, even_by, sound_entries, sound_counted, checked_judgeable, reads}
 
 -- ---- a whole number in 16 bits
 pub origin_fits : (y : ℕ) → y ≤ 8254 → SFits w16 (from_origin y)
@@ -73,64 +70,65 @@ module _ (starts deadlines pairs : List ℕ) (s : Sound starts deadlines pairs) 
       let e = exists_earliest J (reads_closed (list_of starts deadlines pairs) J r) (reads_loopless (list_of starts deadlines pairs) J r (loopless starts deadlines pairs s)) in
       lateness_ranged cores J (written (list_of starts deadlines pairs)) e.0 (omega arith) e.1 limits (omega (arith, r.size)) y x
 
-module _ (starts deadlines pairs before : List ℕ) (s : Sound starts deadlines pairs) (spells : Spells pairs (length pairs / 2) before) where
+-- rows that have passed the checks of the entries
+module _ (starts deadlines pairs before : List ℕ) (even : Uneven starts deadlines pairs → ⊥) {x : ⊤} (c : Checked starts deadlines pairs before (Ok x)) where
   abbrev L : Listed
   L = list_of starts deadlines pairs
 
   abbrev J : Jobs
   J = jobs_in (length starts) starts before
 
-  pub late_begins : Judgeable starts deadlines before → 0 < length starts → Narrowed (Leaves Moved starts deadlines before) 1 8254
-  unfolding moved written
-  late_begins j some =
-      let e = exists_earliest J j.closed j.loopless in
-      late_outset cores J (row_in deadlines) e.0 (omega arith) e.1 (limits starts deadlines pairs s J (reads starts deadlines pairs before s spells)) some
+  sound : Sound starts deadlines pairs
+  sound = sound_counted starts deadlines pairs even c.passes
 
-  pub late_ends : (y : ℕ) → Lowest (Leaves Moved starts deadlines before) y → LateAs L (0, from_origin y)
+  spells : Spells pairs (length pairs / 2) before
+  spells = c.spells refl
+
+  judgeable : Judgeable starts deadlines before
+  judgeable = checked_judgeable starts deadlines pairs before even c
+
+  checked_reads : Reads L J
+  checked_reads = reads starts deadlines pairs before sound spells
+
+  pub late_begins : 0 < length starts → Narrowed (Leaves moved_by starts deadlines before) 1 8254
   unfolding moved written
-  late_ends y x = record {
-    jobs = J;
-    reads = reads starts deadlines pairs before s spells;
-    y = y;
-    lateness = (lateness_iff cores J (row_in deadlines) 4096 y).1 x;
-    tells = refl;
-  }
+  late_begins some =
+      let j = judgeable in
+      let e = exists_earliest J j.closed j.loopless in
+      late_outset cores J (row_in deadlines) e.0 (omega arith) e.1 (limits starts deadlines pairs sound J checked_reads) some
+
+  pub late_ends : (length starts ≡ 0 → ⊥) → (y : ℕ) → Lowest (Leaves moved_by starts deadlines before) y → Latens starts deadlines pairs 0 (from_origin y)
+  unfolding moved written
+  late_ends some y l = passed (even, (c.passes.0, (some, c.passes.1)))
+      (record { jobs = J; reads = checked_reads; y = y; lateness = (lateness_iff cores J (row_in deadlines) 4096 y).1 l; tells = refl })
 
   -- ---- how short
-  pub ends_says : (n v : ℕ) → Ends starts deadlines before n v → Table {A = ℕ × ℕ} (plan_check L) (λ n v r. r ≡ (n, v)) (ShortAs L) (n, v)
+  -- a plan meets the deadlines
+  short_by : (end : ℕ) → Shortest cores J (row_in deadlines) end → Shortens starts deadlines pairs 0 end
   unfolding written
-  ends_says n v (refused m w x e) = refused m w ((λ p. x.0 (plan_one cores L p.0 J (written L) p.1 (reads starts deadlines pairs before s spells) p.2)), x.1, x.2) e
-  ends_says n v (passed free x) = passed (λ no. free (λ p. no (J, reads starts deadlines pairs before s spells, p)))
-      (record { jobs = J; reads = reads starts deadlines pairs before s spells; end = x.0; shortest = x.1; tells = x.2 })
+  short_by end l = then_table (even, c.passes) (passed (λ no. no (J, checked_reads, (l.reached.0, l.reached.1, l.reached.2)))
+      (record { jobs = J; reads = checked_reads; end = end; shortest = l; tells = refl }))
 
-  -- and so all of them
-  pub ends_shortens : (Uneven starts deadlines pairs → ⊥) → (r : Answer) → Says r (Ends starts deadlines before) → Says r (Shortens starts deadlines pairs)
-  ends_shortens even r x = says_more (Ends starts deadlines before) (Shortens starts deadlines pairs) r (λ n v y. then_table (even, ((λ g. omega (arith, s.few)), (s.jobs, (s.held.below, s.free)))) (ends_says n v y)) x
-
--- of rows that may be tightened
-module _ (starts deadlines before : List ℕ) (j : Judgeable starts deadlines before) where
-  abbrev K : Jobs
-  K = jobs_in (length starts) starts before
-
-  pub short_none : length starts ≡ 0 → Ends starts deadlines before 0 0
-  short_none z =
-      let x = shortest_empty cores K (row_in deadlines) z in
-      passed (λ no. no (x.reached.0, x.reached.1, x.reached.2)) (0, x, refl)
+  pub short_none : length starts ≡ 0 → Shortens starts deadlines pairs 0 0
+  short_none z = short_by 0 (shortest_empty cores J (row_in deadlines) z)
 
   -- no deadline is above 4,096
-  capped_all : Leaves Capped starts deadlines before 4096 → HasPlan cores K (row_in deadlines)
+  capped_all : Leaves capped_at starts deadlines before 4096 → HasPlan cores J (row_in deadlines)
   capped_all p = (p.0, p.1, record { ends = λ i l. omega (arith, p.2.ends i l) })
 
-  pub short_refused : (Leaves Capped starts deadlines before 4096 → ⊥) → Ends starts deadlines before 4 0
-  short_refused f = refused 4 0 ((λ p. f (p.0, p.1, record { ends = λ i l. omega (arith, p.2.ends i l, j.late i l) })), refl, refl) refl
+  pub short_refused : (Leaves capped_at starts deadlines before 4096 → ⊥) → Shortens starts deadlines pairs 4 0
+  unfolding written
+  short_refused f =
+      let none : HasPlan cores J (row_in deadlines) → ⊥ = λ p. f (p.0, p.1, record { ends = λ i l. omega (arith, p.2.ends i l, judgeable.late i l) }) in
+      then_table (even, c.passes) (refused 4 0 ((λ p. none (plan_one cores L p.0 J (written L) p.1 checked_reads p.2)), refl, refl) refl)
 
-  pub short_begins : 0 < length starts → Leaves Capped starts deadlines before 4096 → Narrowed (Leaves Capped starts deadlines before) 1 4096
+  pub short_begins : 0 < length starts → Leaves capped_at starts deadlines before 4096 → Narrowed (Leaves capped_at starts deadlines before) 1 4096
   unfolding capped
-  short_begins some p = short_outset cores K (row_in deadlines) 4096 some j.late (capped_all p)
+  short_begins some p = short_outset cores J (row_in deadlines) 4096 some judgeable.late (capped_all p)
 
-  pub short_ends : Leaves Capped starts deadlines before 4096 → (end : ℕ) → Lowest (Leaves Capped starts deadlines before) end → Ends starts deadlines before 0 end
+  pub short_ends : (end : ℕ) → Lowest (Leaves capped_at starts deadlines before) end → Shortens starts deadlines pairs 0 end
   unfolding capped
-  short_ends p end x = passed (λ no. no (capped_all p)) (end, (shortest_iff cores K (row_in deadlines) end).1 x, refl)
+  short_ends end l = short_by end ((shortest_iff cores J (row_in deadlines) end).1 l)
 
 -- ---- numbers, and what an answer of 0 has passed
 pub late_numbers : (starts deadlines pairs : List ℕ) → Each (λ n. T (sound_number n)) (late_checks starts deadlines pairs)
@@ -171,13 +169,13 @@ latens_only starts deadlines pairs n m v w x y =
     (ap (λ (p : ℕ × ℤ). p.0) e, ap (λ (p : ℕ × ℤ). p.1) e)
 
 -- and so one answer
-pub lateness_only : (starts deadlines pairs : List ℕ) (a b : Late) → Lates a (Latens starts deadlines pairs) → Lates b (Latens starts deadlines pairs) → a ≡ b
-lateness_only starts deadlines pairs (By v) (By w) x y = ap By (latens_only starts deadlines pairs 0 0 v w x y).1
-lateness_only starts deadlines pairs (By v) (Refused m w) x y = absurd (omega (arith, (latens_only starts deadlines pairs 0 m v (pos w) x y.1).0, y.0))
-lateness_only starts deadlines pairs (Refused n v) (By w) x y = absurd (omega (arith, (latens_only starts deadlines pairs n 0 (pos v) w x.1 y).0, x.0))
-lateness_only starts deadlines pairs (Refused n v) (Refused m w) x y =
-    let same = latens_only starts deadlines pairs n m (pos v) (pos w) x.1 y.1 in
-    ap₂ Refused same.0 (ap size same.1)
+pub lateness_only : (starts deadlines pairs : List ℕ) (a b : Result ℤ Refusal) → Lates a (Latens starts deadlines pairs) → Lates b (Latens starts deadlines pairs) → a ≡ b
+lateness_only starts deadlines pairs (Ok v) (Ok w) x y = ap Ok (latens_only starts deadlines pairs 0 0 v w x y).1
+lateness_only starts deadlines pairs (Ok v) (Err s) x y = absurd (omega (arith, (latens_only starts deadlines pairs 0 _ v _ x y).0, (number_within s.reason).0))
+lateness_only starts deadlines pairs (Err r) (Ok w) x y = absurd (omega (arith, (latens_only starts deadlines pairs _ 0 _ w x y).0, (number_within r.reason).0))
+lateness_only starts deadlines pairs (Err r) (Err s) x y =
+    let same = latens_only starts deadlines pairs _ _ _ _ x y in
+    ap Err (ap₂ refused_by (number_one r.reason s.reason same.0) (ap size same.1))
   where
     size : ℤ → ℕ
     size (pos n) = n
@@ -189,5 +187,5 @@ shortens_only starts deadlines pairs n v m w x y =
     let e = table_one (short_checks starts deadlines pairs) (λ n v r. r ≡ (n, v)) (ShortAs (list_of starts deadlines pairs)) (λ n v r s a b. a ∙ sym b) (short_one (list_of starts deadlines pairs)) (n, v) (m, w) x y in
     (ap (λ (p : ℕ × ℕ). p.0) e, ap (λ (p : ℕ × ℕ). p.1) e)
 
-pub shortest_only : (starts deadlines pairs : List ℕ) (a b : Answer) → Says a (Shortens starts deadlines pairs) → Says b (Shortens starts deadlines pairs) → a ≡ b
+pub shortest_only : (starts deadlines pairs : List ℕ) (a b : Result ℕ Refusal) → Says a (Shortens starts deadlines pairs) → Says b (Shortens starts deadlines pairs) → a ≡ b
 shortest_only starts deadlines pairs a b = says_only (Shortens starts deadlines pairs) (Shortens starts deadlines pairs) a b (shortens_only starts deadlines pairs)

@@ -4,13 +4,13 @@ use mathlib.Core.Bool.{Bool, true, false}
 use mathlib.Core.List.{List}
 use mathlib.Core.Logic.{◌↔◌, ⊎_elim}
 use mathlib.Core.Path.{◌≡◌, refl, sym, ap, subst, ◌∙◌}
-use Prim.Native.Nat.{ℕ, ◌+◌, ◌≤◌, ◌<◌}
+use Prim.Native.Nat.{ℕ, ◌+◌, ◌-◌, ◌≤◌, ◌<◌}
 use native.Mathlib.Nat.{le_antisymm}
 use native.Mathlib.Omega.{arith}
 use lib.Bits.{bit_or}
 use lib.Dec.{T}
-use lib.ListN.{length, get_or, take, get_or-eq_default}
-use lib.Seq.{ext_get_or, get_or-take, length-take-le}
+use lib.ListN.{length, get_or, take, drop, length-drop, get_or-eq_default}
+use lib.Seq.{ext_get_or, get_or-take, get_or-drop, length-take-le}
 use Rattle.schedule.specs.Jobs.{Closed, Loopless}
 use Rattle.schedule.specs.Times.{Earliest}
 use Rattle.schedule.specs.Listed.{Listed, ordered, Chain, link, join, written}
@@ -20,17 +20,14 @@ use Rattle.schedule.proofs.Greedy.{row_has_plan}
 use Rattle.schedule.proofs.Chains.{reads_closed, reads_loopless}
 use Rattle.schedule.proofs.Readings.{latest_any}
 use Rattle.sets.specs.Sets.{has, Without, Below}
-use Rattle.sets.proofs.Bits.{or_has, empty_has, digits_same}
+use Rattle.sets.proofs.Bits.{or_has, empty_has, none_is, has_some, digits_same}
 use Rattle.sets.proofs.Range.{below_in}
-use Rattle.book.specs.Told.{Book, cores, part, jobs_in, jobs_of, latest_of, row_in, Made}
-use Rattle.book.proofs.Parts.{part_length, part_at}
-use Rattle.planner.specs.declared.chains.Pending.{Pending}
+use Rattle.book.specs.Told.{Book, cores, book_in, jobs_in, jobs_of, latest_of, Made}
+use Rattle.book.proofs.Parts.{part_length}
 use Rattle.planner.specs.Memory.{Whether}
-use Rattle.planner.specs.Inner.Chains.{nothing, joined_rows}
-use Rattle.planner.specs.Inner.Memory.{Limits, Sub, ChainedAt, Steady}
+use Rattle.planner.specs.Inner.Memory.{Limits, Sub, ChainedAt, Regular, Steady}
 use Rattle.planner.specs.Inner.Tighten.{Tightenable, Tightens}
 use Rattle.planner.proofs.Growing.{false_T}
-use Rattle.planner.proofs.Pending.{nothing_ready, nothing_tight}
 use Rattle.planner.proofs.Whether.{whether_as}
 use Rattle.planner.proofs.Listing.{pairs_listed}
 
@@ -49,18 +46,16 @@ others size b all held few x y j =
 
 -- the set of a job beyond those held, and of a job held
 module _ (size : ℕ) (before : List ℕ) (b : ℕ) where
-  pub beyond_chained : size ≤ b → {r : Bool} → Whether (Sub (get_or before b 0) 0) r → Whether (ChainedAt size before b) r
-  beyond_chained h w = whether_as
-      (λ s. record { inside = λ a t. absurd (none s a t); free = λ t. none s b t; joins = λ a t. absurd (none s a t) })
-      (λ x a t. absurd (omega (arith, (x.inside a t).1))) w
+  pub beyond_chained : size ≤ b → get_or before b 0 ≡ 0 → ChainedAt size before b
+  beyond_chained h e = record { inside = λ a t. absurd (none a t); free = λ t. none b t; joins = λ a t. absurd (none a t) }
     where
-      none : Sub (get_or before b 0) 0 → (a : ℕ) → T (has (get_or before b 0) a) → ⊥
-      none s a t = false_T _ (empty_has a) (s a t)
+      none : (a : ℕ) → T (has (get_or before b 0) a) → ⊥
+      none a t = has_some _ a t e
+
+  pub chained_beyond : size ≤ b → ChainedAt size before b → get_or before b 0 ≡ 0
+  chained_beyond h x = none_is (get_or before b 0) (λ a t. omega (arith, (x.inside a t).1))
 
   module _ (all held : ℕ) (few : size ≤ 64) (x : Below size all) (y : Without all b held) where
-    pub chained_part : ChainedAt size before b → Sub (get_or before b 0) held
-    chained_part c a t = (others size b all held few x y a).1 ((c.inside a t).0, λ e. c.free (subst (λ (j : ℕ). T (has (get_or before b 0) j)) e t))
-
     pub part_chained : b < size → Sub (get_or before b 0) held → ((a : ℕ) → T (has (get_or before b 0) a) → Sub (get_or before a 0) (get_or before b 0)) → ChainedAt size before b
     part_chained h s f = record {
       inside = λ a t. (((others size b all held few x y a).0 (s a t)).0, h);
@@ -68,19 +63,19 @@ module _ (size : ℕ) (before : List ℕ) (b : ℕ) where
       joins = f;
     }
 
--- ---- a part of a row, entry by entry
-abbrev pub Kept : ℕ → ℕ → ℕ → ℕ → Type 0
-Kept size limit i v = (i < size → v ≤ limit) × (size ≤ i → v ≡ 0)
-
-module _ (size limit from : ℕ) (times : List ℕ) where
-  pub limits_part : from + 64 ≤ length times → size ≤ 64 → ((i : ℕ) → i < 64 → Kept size limit i (get_or times (from + i) 0)) → Limits size limit (part from times)
-  limits_part long few f = record {
-    low = λ i l. rw (part_at from times i (omega arith)) ((f i (omega arith)).0 l);
-    rest = λ i l. ⊎_elim (λ le. get_or-eq_default (part from times) 0 (omega (arith, part_length from times long))) (λ lt. part_at from times i lt ∙ (f i lt).1 l) (le_or_lt 64 i);
+-- ---- a row, its front and what is beyond
+module _ (size limit : ℕ) (row : List ℕ) (few : size ≤ 64) (long : length row ≡ 64) where
+  pub limits_split : ((i : ℕ) → i < length (take size row) → get_or (take size row) i 0 ≤ limit) → ((i : ℕ) → i < length (drop size row) → get_or (drop size row) i 0 ≤ 0) → Limits size limit row
+  limits_split front beyond = record {
+    low = λ i l. rw (← get_or-take size row i 0 l) (front i (omega (arith, length-take-le size row (omega arith))));
+    rest = λ i l. ⊎_elim
+        (λ le. get_or-eq_default row 0 (omega arith))
+        (λ lt. let e : get_or (drop size row) (i - size) 0 ≡ get_or row i 0 = get_or-drop size row (i - size) 0 ∙ ap (λ (j : ℕ). get_or row j 0) (omega arith) in omega (arith, e, beyond (i - size) (omega (arith, length-drop size row))))
+        (le_or_lt 64 i);
   }
 
-  pub limits_at : Limits size limit (part from times) → (i : ℕ) → i < 64 → Kept size limit i (get_or times (from + i) 0)
-  limits_at x i l = rw (← part_at from times i l) (x.low i, x.rest i)
+  pub limits_beyond : Limits size limit row → (i : ℕ) → i < length (drop size row) → get_or (drop size row) i 0 ≤ 0
+  limits_beyond x i l = omega (arith, get_or-drop size row i 0, x.rest (size + i) (omega arith))
 
 -- ---- the sets
 module _ (size : ℕ) (start before : List ℕ) (few : size ≤ 64) (x : (b : ℕ) → b < 64 → ChainedAt size before b) where
@@ -96,75 +91,50 @@ module _ (size : ℕ) (start before : List ℕ) (few : size ≤ 64) (x : (b : �
       (λ lt. (x b lt).inside a t) (le_or_lt 64 b)
 
 -- ---- the latest times
--- the engine is called on copies, with no order pending
-module _ (size : ℕ) (start before row given due : List ℕ) (p : Pending) (a : given ≡ start) (b : due ≡ row) (e : p ≡ nothing) (long : length before ≡ 64) where
-  pub copied_ready : Tightenable size start before row → (p.job.0 < 64) × Tightenable size given (joined_rows before p) due
-  copied_ready t = rw (a, b) (nothing_ready size start before row p e long t)
+-- a regular book in lent memory
+module _ (times before : List ℕ) (long : length times ≡ 129) (long_before : length before ≡ 64) (w : Regular (book_in times before)) where
+  abbrev k : Book
+  k = book_in times before
 
-  pub copied_tight : (next : List ℕ) (fits : Bool) → Tightens cores size given (joined_rows before p) due next fits → Tightens cores size start before row next fits
-  copied_tight next fits t = nothing_tight cores size start before row next fits p e long (rw (a, b) at t)
+  pub starts_long : length k.start ≡ 64
+  starts_long = part_length 1 times (omega (arith, long))
 
-module _ (size : ℕ) (start before row next : List ℕ) (fits : Bool) (ready : Tightenable size start before row) (t : Tightens cores size start before row next fits) where
-  first : (early : ℕ → ℕ) × Earliest (jobs_in size start before) early
-  first = exists_earliest (jobs_in size start before) ready.closed ready.loopless
+  pub latest_long : length k.latest ≡ 64
+  latest_long = part_length 65 times (omega (arith, long))
 
-  pub steady_yes : fits ≡ true → row ≡ next → Steady size start before row
-  steady_yes y s early e = rw s (t.latest y early e).consistent
-
-  pub steady_same : fits ≡ true → Steady size start before row → row ≡ next
-  steady_same y s =
-      let tight = t.latest y first.0 first.1 in
-      ext_get_or 0 row next (ready.long ∙ sym t.length)
-      (λ i l. ⊎_elim (λ le. sym (t.rest y i le)) (λ lt. le_antisymm (tight.greatest (row_in row) (s first.0 first.1) (λ j h. omega arith) i lt) (tight.beneath i lt)) (le_or_lt size i))
-
-  pub steady_none : fits ≡ false → Steady size start before row → ⊥
-  steady_none n s = t.none n (row_has_plan 2 (jobs_in size start before) first.0 (row_in row) (omega arith) (omega arith) ready.closed first.1 (s first.0 first.1))
-
--- ---- all of it
--- what the tests before the last find: the size, the limits, the chains
-pub record Regular (k : Book) : Type 0 where
-  pub few : k.size ≤ 64
-  pub starts : Limits k.size 4095 k.start
-  pub latests : Limits k.size 4096 k.latest
-  pub chained : (b : ℕ) → b < 64 → ChainedAt k.size k.before b
-
--- a book made by requests has it, and its latest times are consistent
-module _ (k : Book) (m : Made k) where
-  pub made_regular : Regular k
-  made_regular =
-      let L = m.0 in
-      let t = m.1 in
-      let h = t.holds in
-      let held = t.shaped.before_rest in record {
-        few = t.shaped.few;
-        starts = record { low = λ i l. omega (arith, h.reads.start i l, t.limited.start i (omega (arith, h.reads.size))); rest = t.shaped.start_rest };
-        latests = record { low = λ i l. omega (arith, h.latest.beneath i l, t.limited.deadline i (omega (arith, h.reads.size))); rest = t.shaped.latest_rest };
-        chained = λ b l. record {
-          inside = λ a x. held a b x;
-          free = λ x. (reads_loopless L (jobs_of k) h.reads h.loopless).never b (held b b x).0 x;
-          joins = λ a x c y. (reads_closed L (jobs_of k) h.reads).joins c a b (held c a y).0 (held a b x).0 (held a b x).1 y x;
-        };
-      }
-
-  pub made_steady : Steady k.size k.start k.before k.latest
-  made_steady early e =
-      let h = m.1.holds in
-      (latest_any 2 (jobs_of k) h.early early (written m.0) (latest_of k) h.earliest e h.latest).consistent
-
-module _ (k : Book) (long_start : length k.start ≡ 64) (long_latest : length k.latest ≡ 64) (long_before : length k.before ≡ 64) (w : Regular k) where
   -- its rows may be tightened
   pub regular_ready : Tightenable k.size k.start k.before k.latest
   regular_ready = record {
     few = w.few;
-    long = long_latest;
-    starts = omega (arith, w.few);
+    long = latest_long;
+    starts = omega (arith, starts_long, w.few);
     early = λ i l. omega (arith, w.starts.low i l);
     closed = chained_closed k.size k.start k.before w.few w.chained;
     loopless = chained_loopless k.size k.start k.before w.few w.chained;
     inside = chained_inside k.size k.start k.before w.few w.chained long_before;
   }
 
-  -- the list that the book spells: its starts, its latest times as deadlines, every pair as an order
+  module _ (next : List ℕ) (fits : Bool) (t : Tightens cores k.size k.start k.before k.latest next fits) where
+    first : (early : ℕ → ℕ) × Earliest (jobs_of k) early
+    first = exists_earliest (jobs_of k) regular_ready.closed regular_ready.loopless
+
+    steady_yes : fits ≡ true → k.latest ≡ next → Steady k
+    steady_yes y s early e = rw s (t.latest y early e).consistent
+
+    steady_same : fits ≡ true → Steady k → k.latest ≡ next
+    steady_same y s =
+        let tight = t.latest y first.0 first.1 in
+        ext_get_or 0 k.latest next (latest_long ∙ sym t.length)
+        (λ i l. ⊎_elim (λ le. sym (t.rest y i le)) (λ lt. le_antisymm (tight.greatest (latest_of k) (s first.0 first.1) (λ j h. omega arith) i lt) (tight.beneath i lt)) (le_or_lt k.size i))
+
+    -- nothing changed
+    pub steady_whether : fits ≡ true → {r : Bool} → Whether (k.latest ≡ next) r → Whether (Steady k) r
+    steady_whether y = whether_as (steady_yes y) (steady_same y)
+
+    pub steady_none : fits ≡ false → Steady k → ⊥
+    steady_none n s = t.none n (row_has_plan 2 (jobs_of k) first.0 (latest_of k) (omega arith) (omega arith) regular_ready.closed first.1 (s first.0 first.1))
+
+  -- ---- the list that the book spells: its starts, its latest times as deadlines, every pair as an order
   listing : (o : List (ℕ × ℕ)) × ((a b : ℕ) → T (ordered o a b) ↔ T (has (get_or k.before b 0) a))
   listing = pairs_listed k.size (λ a b. has (get_or k.before b 0) a) regular_ready.inside
 
@@ -182,17 +152,17 @@ module _ (k : Book) (long_start : length k.start ≡ 64) (long_latest : length k
   cut row l = length-take-le k.size row (omega (arith, w.few))
 
   -- it is told by the book
-  pub steady_made : Steady k.size k.start k.before k.latest → Made k
+  pub steady_made : Steady k → Made k
   unfolding spelled written
   steady_made steady =
-      let n = cut k.start long_start in
+      let n = cut k.start starts_long in
       let e = exists_earliest (jobs_of k) regular_ready.closed regular_ready.loopless in (
         spelled,
         record {
           shaped = record {
             few = w.few;
-            starts = long_start;
-            latests = long_latest;
+            starts = starts_long;
+            latests = latest_long;
             befores = long_before;
             start_rest = w.starts.rest;
             latest_rest = w.latests.rest;
@@ -204,7 +174,7 @@ module _ (k : Book) (long_start : length k.start ≡ 64) (long_latest : length k
           };
           holds = record {
             formed = record {
-              even = cut k.latest long_latest ∙ sym n;
+              even = cut k.latest latest_long ∙ sym n;
               held = λ a b t. let h = regular_ready.inside a b ((listing.1 a b).0 t) in (omega arith, omega arith);
             };
             loopless = λ x. let t = chain_in x.1 in regular_ready.loopless.never x.0 (regular_ready.inside x.0 x.0 t).0 t;
@@ -223,3 +193,27 @@ module _ (k : Book) (long_start : length k.start ≡ 64) (long_latest : length k
           };
         },
       )
+
+-- ---- and what any book made by requests has
+-- a book made by requests is regular and steady
+module _ (k : Book) (m : Made k) where
+  pub made_regular : Regular k
+  made_regular =
+      let L = m.0 in
+      let t = m.1 in
+      let h = t.holds in
+      let held = t.shaped.before_rest in record {
+        few = t.shaped.few;
+        starts = record { low = λ i l. omega (arith, h.reads.start i l, t.limited.start i (omega (arith, h.reads.size))); rest = t.shaped.start_rest };
+        latests = record { low = λ i l. omega (arith, h.latest.beneath i l, t.limited.deadline i (omega (arith, h.reads.size))); rest = t.shaped.latest_rest };
+        chained = λ b l. record {
+          inside = λ a x. held a b x;
+          free = λ x. (reads_loopless L (jobs_of k) h.reads h.loopless).never b (held b b x).0 x;
+          joins = λ a x c y. (reads_closed L (jobs_of k) h.reads).joins c a b (held c a y).0 (held a b x).0 (held a b x).1 y x;
+        };
+      }
+
+  pub made_steady : Steady k
+  made_steady early e =
+      let h = m.1.holds in
+      (latest_any 2 (jobs_of k) h.early early (written m.0) (latest_of k) h.earliest e h.latest).consistent

@@ -10,7 +10,8 @@ use lib.ListN.{length, get_or}
 use lib.Seq.{ext_get_or}
 use Rattle.schedule.specs.Listed.{Listed, link, Looped, Formed, written}
 use Rattle.schedule.proofs.Tests.{le_or_lt, le_by}
-use Rattle.refusal.specs.declared.Answer.{Answer}
+use Rattle.std.specs.Prelude.{Result}
+use Rattle.refusal.specs.declared.Refusal.{Refusal}
 use Rattle.refusal.specs.Says.{Says}
 use Rattle.refusal.specs.Table.{places, Clear, Table, One}
 use Rattle.refusal.proofs.Table.{Each, each_map, among_each, table_one, table_past, table_free, table_nested, table_rest, table_last}
@@ -43,7 +44,7 @@ pub judges_only : (starts deadlines pairs row : List ℕ) → One (Judges starts
 judges_only starts deadlines pairs row =
     table_one (list_checks starts deadlines pairs row) (TurnedDown row) (Fitted (list_of starts deadlines pairs) row) (λ n v r s x y. x ∙ sym y) (fitted_one (list_of starts deadlines pairs) row)
 
-pub list_answer_only : (starts deadlines pairs row after next : List ℕ) (r s : Answer) →
+pub list_answer_only : (starts deadlines pairs row after next : List ℕ) (r s : Result ℕ Refusal) →
     Says r (λ n v. Judges starts deadlines pairs row (judged after n v)) → Says s (λ n v. Judges starts deadlines pairs row (judged next n v)) → r ≡ s
 list_answer_only starts deadlines pairs row after next r s x y =
     says_only _ _ r s (λ n v u w p o. let e = judges_only starts deadlines pairs row _ _ p o in (ap (λ (a : Judged). a.number) e, ap (λ (a : Judged). a.value) e)) x y

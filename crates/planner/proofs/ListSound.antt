@@ -1,7 +1,7 @@
 -- A whole list: what its checks leave, one after the other.
 -- Assumes nothing.
 use mathlib.Core.List.{List}
-use mathlib.Core.Logic.{inl, inr}
+use mathlib.Core.Logic.{inl, inr, ⊎_elim}
 use mathlib.Core.Path.{◌≡◌, refl, sym}
 use Prim.Native.Nat.{ℕ, ◌/◌, ◌≤◌, ◌<◌}
 use native.Mathlib.Nat.{le_antisymm}
@@ -16,37 +16,26 @@ use Rattle.schedule.proofs.Early.{exists_earliest}
 use Rattle.schedule.proofs.Chains.{reads_closed, reads_loopless}
 use Rattle.schedule.proofs.Renumber.{latest_along}
 use Rattle.book.specs.Told.{jobs_in, row_in}
-use Rattle.refusal.specs.Table.{Checks, check, ◌then◌, places, Clear, Refuses, Table, refused, passed}
+use Rattle.refusal.specs.Table.{check, ◌then◌, Clear, Table, refused, passed}
 use Rattle.planner.specs.Requests.{plan_check}
-use Rattle.planner.specs.List.{list_of, Uneven, job_at, order_at, entries_checks, rows_checks, SoundRows, Judged, judged, TurnedDown, Fitted, Judges}
-use Rattle.planner.specs.Inner.Entries.{Held, Spells}
+use Rattle.planner.specs.List.{list_of, Uneven, Misshapen, job_at, order_at, entries_checks, rows_checks, Judged, judged, TurnedDown, Fitted, Judges}
+use Rattle.planner.specs.Inner.Entries.{Held, Spells, Checked}
 use Rattle.planner.specs.Inner.List.{Judgeable, Settles}
 use Rattle.schedule.proofs.Readings.{reads_one, plan_one}
 use Rattle.schedule.proofs.Onward.{holds_planned}
-use Rattle.refusal.specs.declared.Answer.{Answer}
-use Rattle.planner.specs.Inner.Numbers.{Numbers}
+use Rattle.std.specs.Prelude.{Result, Ok}
+use Rattle.refusal.specs.declared.Refusal.{Refusal}
 use Rattle.refusal.specs.Says.{Says}
 use Rattle.refusal.proofs.Table.{table_then}
 use Rattle.refusal.proofs.Says.{says_more}
 use Rattle.planner.proofs.Pairs.{pairs_held, pairs_loopless, spells_held}
 
--- ---- a search through all places: the first that finds its fault, or none
-pub found_at : (n : ℕ) (at : ℕ → Checks) (p number : ℕ) → p < n → ((j : ℕ) → j < p → Clear (at j)) → (number ≡ 0 → ⊥) → Refuses (at p) number p → Numbers (places n at) number p
-found_at n at p number l before f x = record { none = λ e. absurd (f e); some = λ g. (p, l, before, x) }
-
-pub none_at : (n : ℕ) (at : ℕ → Checks) (p value : ℕ) → n ≤ p → ((j : ℕ) → j < p → Clear (at j)) → Numbers (places n at) 0 value
-none_at n at p value l before = record { none = λ e i h. before i (omega arith); some = λ f. absurd (f refl) }
-
--- ---- a search and then another
-pub numbers_first : (a b : Checks) (n v : ℕ) → (n ≡ 0 → ⊥) → Numbers a n v → Numbers (a then b) n v
-numbers_first a b n v f x = record { none = λ e. absurd (f e); some = λ g. inl (x.some g) }
-
-pub numbers_then : (a b : Checks) (n v : ℕ) → Clear a → Numbers b n v → Numbers (a then b) n v
-numbers_then a b n v clear x = record { none = λ e. (clear, x.none e); some = λ g. inr (clear, x.some g) }
-
 -- ---- what the checks before the last leave
 pub even_by : (starts deadlines pairs : List ℕ) → (Uneven starts deadlines pairs → ⊥) → length starts ≡ length deadlines
 even_by starts deadlines pairs f = le_antisymm (le_by _ _ (λ l. f (inl (λ e. omega arith)))) (le_by _ _ (λ l. f (inl (λ e. omega arith))))
+
+pub shape_by : (starts deadlines pairs row : List ℕ) → (Uneven starts deadlines pairs → ⊥) → length starts ≤ length row → Misshapen starts deadlines pairs row → ⊥
+shape_by starts deadlines pairs row even l m = ⊎_elim even (λ g. omega arith) m
 
 pub record Sound (starts deadlines pairs : List ℕ) : Type 0 where
   pub even : length starts ≡ length deadlines
@@ -108,14 +97,23 @@ module _ (starts deadlines pairs before : List ℕ) (s : Sound starts deadlines 
       }
 
   -- the last check
-  pub settles_judged : (row : List ℕ) (r : Judged) → Settles starts deadlines before row r → Table (plan_check L) (TurnedDown row) (Fitted L row) r
+  settles_judged : (row : List ℕ) (r : Judged) → Settles starts deadlines before row r → Table (plan_check L) (TurnedDown row) (Fitted L row) r
   unfolding written
   settles_judged row r (refused n v x e) = refused n v ((λ p. x.0 (plan_one 2 L p.0 J (written L) p.1 reads p.2)), x.1, x.2) e
   settles_judged row r (passed free x) =
       let holds = holds_row (row_in x.times) (row_in r.row) x.handed.front x.latest in
       passed (λ no. no (holds_planned 2 (omega arith) (omega arith) L J (row_in r.row) holds)) (record { accepts = x.accepts; same_length = x.handed.same_length; jobs = J; holds = holds; rest = x.handed.rest })
 
-  -- and so all of them
-  pub settles_says : (row after : List ℕ) (r : Answer) → SoundRows starts deadlines pairs row → Says r (λ n v. Settles starts deadlines before row (judged after n v)) →
+-- and so all of them, where the checks before it find nothing
+module _ (starts deadlines pairs before : List ℕ) (even : Uneven starts deadlines pairs → ⊥) (c : Checked starts deadlines pairs before (Ok tt)) where
+  sound : Sound starts deadlines pairs
+  sound = sound_counted starts deadlines pairs even c.passes
+
+  pub checked_judgeable : Judgeable starts deadlines before
+  checked_judgeable = sound_judgeable starts deadlines pairs before sound (c.spells refl)
+
+  pub checked_says : (row after : List ℕ) (r : Result ℕ Refusal) → length starts ≤ length row → Says r (λ n v. Settles starts deadlines before row (judged after n v)) →
       Says r (λ n v. Judges starts deadlines pairs row (judged after n v))
-  settles_says row after r h x = says_more _ _ r (λ n v y. table_then (rows_checks starts deadlines pairs row) (plan_check L) (TurnedDown row) (Fitted L row) _ h (settles_judged row _ y)) x
+  checked_says row after r l = says_more _ _ r (λ n v y.
+      table_then (rows_checks starts deadlines pairs row) (plan_check (list_of starts deadlines pairs)) (TurnedDown row) (Fitted (list_of starts deadlines pairs) row) _
+      (shape_by starts deadlines pairs row even l, c.passes) (settles_judged starts deadlines pairs before sound (c.spells refl) row _ y))

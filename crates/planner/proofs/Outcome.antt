@@ -8,8 +8,10 @@ use borrow.Author.Tests.{ne_eqb}
 use lib.Dec.{T, ltb, eqb, ltb→lt}
 use Rattle.schedule.specs.Listed.{Listed}
 use Rattle.schedule.proofs.Tests.{and_fst, and_snd}
-use Rattle.refusal.specs.declared.Answer.{Answer}
-use Rattle.refusal.specs.Says.{Says}
+use Rattle.std.specs.Prelude.{Result, Ok, Err}
+use Rattle.std.specs.Result.{IsErrAnd}
+use Rattle.refusal.specs.declared.Refusal.{Refusal}
+use Rattle.refusal.specs.Says.{Says, reason_number}
 use Rattle.refusal.specs.Table.{One}
 use Rattle.refusal.proofs.Table.{Each, each_map, among_each, table_one, table_all}
 use Rattle.refusal.proofs.Says.{says_only, says_more}
@@ -19,6 +21,12 @@ use Rattle.planner.specs.declared.requests.Request.{Request}
 use Rattle.planner.specs.declared.requests.Request.TheVariants.{Job, Before, Earlier}
 use Rattle.planner.specs.Requests.{sound_checks, request_checks, accepts_with, grow, Applied, answered, Turned, Grown, Outcome, Outcomes, Applies, kept, Run, opened, asked}
 
+-- ---- what a call says that refuses
+pub says_refused : (P : ℕ → ℕ → Type 0) (r : Refusal) (a : Result ℕ Refusal) → IsErrAnd a (λ s. s ≡ r) → P (reason_number r.reason) r.value → Says a P
+says_refused P r (Ok v) h x = absurd h
+says_refused P r (Err s) h x = rw h x
+
+-- ---- one outcome
 grown_one : (L : Listed) (value : ℕ) → One (Grown L value)
 grown_one L value r s x y = x.accepts ∙ ap (λ (k : Book). answered k 0 value) (told_one L r.book s.book x.told y.told) ∙ sym y.accepts
 
@@ -30,7 +38,7 @@ pub applies_only : (k : Book) (q : Request) → Made k → One (Applies k q)
 applies_only k q m r s x y = outcome_one m.0 k q r s (x.outcome m.0 m.1) (y.outcome m.0 m.1)
 
 -- and so the call has one answer, and leaves one book
-pub answer_only : (k : Book) (q : Request) (b c : Book) (r s : Answer) → Made k → Says r (λ n v. Applies k q (answered b n v)) → Says s (λ n v. Applies k q (answered c n v)) → r ≡ s
+pub answer_only : (k : Book) (q : Request) (b c : Book) (r s : Result ℕ Refusal) → Made k → Says r (λ n v. Applies k q (answered b n v)) → Says s (λ n v. Applies k q (answered c n v)) → r ≡ s
 answer_only k q b c r s m x y = says_only _ _ r s (λ n v u w p o. let e = applies_only k q m _ _ p o in (ap (λ (a : Applied). a.number) e, ap (λ (a : Applied). a.value) e)) x y
 
 -- ---- numbers
@@ -80,7 +88,7 @@ outcomes_made k q r m x = (kept m.0 q r.number, outcome_told m.0 k q r m.1 (x m.
 pub applies_by : (k : Book) (q : Request) (r : Applied) → Made k → Outcomes k q r → Applies k q r
 applies_by k q r m x = record { outcome = x; made = outcomes_made k q r m x }
 
-pub says_applies : (k : Book) (q : Request) (b : Book) (r : Answer) → Made k → Says r (λ n v. Outcomes k q (answered b n v)) → Says r (λ n v. Applies k q (answered b n v))
+pub says_applies : (k : Book) (q : Request) (b : Book) (r : Result ℕ Refusal) → Made k → Says r (λ n v. Outcomes k q (answered b n v)) → Says r (λ n v. Applies k q (answered b n v))
 says_applies k q b r m x = says_more _ _ r (λ n v y. applies_by k q (answered b n v) m y) x
 
 -- a run holds the list of what it accepted, and leaves one book

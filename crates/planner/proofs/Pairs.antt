@@ -1,25 +1,127 @@
 -- Pairs laid flat, taken in one by one: the rows spell their chains, and no loop is closed.
 -- Assumes nothing.
-use mathlib.Core.List.{List, []}
+use mathlib.Core.List.{List, [], ◌∷◌, ◌++◌}
 use mathlib.Core.Logic.{◌↔◌, ◌⊎◌, inl, inr, ⊎_elim}
 use mathlib.Core.Path.{◌≡◌, refl, sym, ap, subst, ◌∙◌}
-use Prim.Native.Nat.{ℕ, zero, suc, ◌+◌, ◌/◌, ◌≤◌, ◌<◌}
-use native.Mathlib.Nat.{not-suc-le-zero, eq-or-lt_of_le, le_antisymm}
+use Prim.Native.Nat.{ℕ, zero, suc, ◌+◌, ◌*◌, ◌/◌, ◌≤◌, ◌<◌}
+use native.Mathlib.Nat.{not-suc-le-zero, eq-or-lt_of_le}
 use native.Mathlib.Numerals.{add-one}
 use native.Mathlib.Omega.{arith}
+use borrow.Author.Count.{below_more}
 use lib.Dec.{T}
-use lib.ListN.{length, get_or, replicate}
+use Rattle.std.specs.Prelude.{Some, Result, Ok, Err, IsOk, IsErr, ⊤}
+use lib.ListN.{length, get_or, drop, replicate}
+use Rattle.std.specs.declared.iter.Enumerate.{Enumerate}
+use Rattle.std.specs.declared.iter.Zip.{Zip}
+use Rattle.std.specs.declared.slice.ChunksExact.{ChunksExact}
+use Rattle.std.specs.declared.slice.Iter.{Iter}
+use Rattle.std.specs.Iterator.Adapters.{enumerate_source, enumerate_count, enumerate_steps, zip_first, zip_second, zip_steps}
+use Rattle.std.specs.Slice.Iter.{iter_rest, iter_steps, chunks_exact_rest, chunks_exact_size, chunks_exact_steps}
+use Rattle.std.proofs.lemmas.Grind.{common_steps}
+use Rattle.std.proofs.lemmas.List.{length-append, length-drop, drop-drop, drop_at}
+use denote.Ref.{Bor}
 use Rattle.schedule.specs.Listed.{ordered, Chain, link, join}
 use Rattle.schedule.proofs.Search.{split_last}
 use Rattle.schedule.proofs.Chains.{chain_grows, chain_held, ordered_append}
 use Rattle.sets.specs.Sets.{has}
 use Rattle.planner.specs.List.{first_of, second_of, pairs_of, order_at}
-use Rattle.refusal.specs.Table.{Clear}
-use Rattle.planner.specs.Inner.Numbers.{Numbers}
+use Rattle.refusal.specs.declared.Refusal.{Refusal}
+use Rattle.refusal.specs.Table.{Checks, places, Clear}
+use Rattle.refusal.specs.declared.Reason.{Reason}
+use Rattle.planner.specs.Inner.Passes.{Passes, at_place}
 use Rattle.planner.specs.Inner.Entries.{Held, Spells, Closes, TakesIn}
 use Rattle.book.proofs.Empty.{zeros}
 use Rattle.sets.proofs.Bits.{empty_has}
 use Rattle.planner.proofs.Orders.{held_left, loop_left}
+
+-- ---- checks place by place
+-- after m places without a fault: the fault of the next is that of all
+pub found_at : {A : Type 0} (n : ℕ) (at : ℕ → Checks) (m p : ℕ) (r : Result A Refusal) → p < n → p ≡ m → ((j : ℕ) → j < m → Clear (at j)) → IsErr r → Passes (at p) r → Passes (places n at) r
+found_at n at m p (Ok x) l same before e h = cc
+found_at n at m p (Err refusal) l same before e h = (p, l, rw same before, h)
+
+-- and where it has none, one more is clear
+pub clear_more : {A : Type 0} (at : ℕ → Checks) (m p : ℕ) (r : Result A Refusal) → p ≡ m → ((j : ℕ) → j < m → Clear (at j)) → IsOk r → Passes (at p) r → (j : ℕ) → j < m + 1 → Clear (at j)
+clear_more at m p (Ok x) same before o h = below_more _ _ before (rw same at h)
+clear_more at m p (Err refusal) same before o h = cc
+
+-- ---- two rows of one length, side by side
+-- the entries of the count come next
+pub record AtEntry (xs ys : List ℕ) (s : Enumerate (Zip (Iter ℕ) (Iter ℕ))) : Type 0 where
+  pub even : length xs ≡ length ys
+  pub left : iter_rest (zip_first (enumerate_source s)) ≡ drop (enumerate_count s) xs
+  pub right : iter_rest (zip_second (enumerate_source s)) ≡ drop (enumerate_count s) ys
+  pub few : enumerate_count s ≤ length xs
+
+-- two entries that came, and what stands behind them
+pub record Beside (xs ys : List ℕ) (s t : Enumerate (Zip (Iter ℕ) (Iter ℕ))) (i x y : ℕ) : Type 0 where
+  pub place : i ≡ enumerate_count s
+  pub below : i < length xs
+  pub left : x ≡ get_or xs i 0
+  pub right : y ≡ get_or ys i 0
+  pub counts : enumerate_count t ≡ enumerate_count s + 1
+  pub onward : AtEntry xs ys t
+
+behind : (xs rest : List ℕ) (n m x : ℕ) → drop n xs ≡ x ∷ rest → m ≡ n + 1 → rest ≡ drop m xs
+behind xs rest n m x e f = rw (f, ← drop-drop 1 n xs, e) refl
+
+pub beside : (xs ys : List ℕ) (s t : Enumerate (Zip (Iter ℕ) (Iter ℕ))) (i : ℕ) (x y : Bor ℕ) → AtEntry xs ys s → enumerate_steps (zip_steps iter_steps iter_steps) s (Some (i, (x, y))) t → Beside xs ys s t i x.now y.now
+beside xs ys s t i x y a step = record {
+  place = grind arith;
+  below = grind (arith, common_steps);
+  left = grind (arith, common_steps);
+  right = grind (arith, common_steps);
+  counts = grind arith;
+  onward = record {
+    even = a.even;
+    left = behind xs _ (enumerate_count s) _ x.now (grind arith) (grind arith);
+    right = behind ys _ (enumerate_count s) _ y.now (grind arith) (grind arith);
+    few = grind (arith, common_steps);
+  };
+}
+
+-- ---- pairs laid flat, one after the other
+-- the pair of the count comes next
+pub record AtPair (pairs : List ℕ) (s : Enumerate (ChunksExact ℕ)) : Type 0 where
+  pub two : chunks_exact_size (enumerate_source s) ≡ 2
+  pub rest : chunks_exact_rest (enumerate_source s) ≡ drop (2 * enumerate_count s) pairs
+  pub few : enumerate_count s ≤ length pairs / 2
+
+-- a pair that came, and what stands behind it
+pub record Met (pairs : List ℕ) (s t : Enumerate (ChunksExact ℕ)) (p : ℕ) (pair : List ℕ) : Type 0 where
+  pub place : p ≡ enumerate_count s
+  pub below : p < length pairs / 2
+  pub first : get_or pair 0 0 ≡ first_of pairs p
+  pub second : get_or pair 1 0 ≡ second_of pairs p
+  pub counts : enumerate_count t ≡ enumerate_count s + 1
+  pub onward : AtPair pairs t
+
+module _ (pairs : List ℕ) (s t : Enumerate (ChunksExact ℕ)) (p : ℕ) (pair : Bor (List ℕ)) (a : AtPair pairs s) (step : enumerate_steps chunks_exact_steps s (Some (p, pair)) t) where
+  whole : drop (2 * enumerate_count s) pairs ≡ pair.now ++ chunks_exact_rest (enumerate_source t)
+  whole = grind (arith, common_steps)
+
+  long : length pair.now ≡ 2
+  long = grind arith
+
+  room : 2 * enumerate_count s + 2 ≤ length pairs
+  room = omega (arith, a.few, length-drop (2 * enumerate_count s) pairs, ap length whole, length-append pair.now (chunks_exact_rest (enumerate_source t)), long)
+
+  counted : enumerate_count t ≡ enumerate_count s + 1
+  counted = grind arith
+
+  pub pair_met : Met pairs s t p pair.now
+  pair_met = record {
+    place = grind arith;
+    below = omega (arith, room);
+    first = grind (arith, common_steps, whole, long);
+    second = grind (arith, common_steps, whole, long);
+    counts = counted;
+    onward = record {
+      two = grind arith;
+      rest = sym (ap (λ n. drop n pairs) (omega (arith, counted)) ∙ sym (drop-drop 2 (2 * enumerate_count s) pairs) ∙ ap (drop 2) whole ∙ drop_at _ _ 2 long);
+      few = omega (arith, room, counted);
+    };
+  }
 
 -- a chain that was, or one through a before b
 abbrev Through : (ℕ → ℕ → Type 0) → ℕ → ℕ → ℕ → ℕ → Type 0
@@ -88,13 +190,9 @@ spells_more pairs rows next n s f = rw add-one (record { long = ⊎_elim (λ u. 
       (λ c. (u.1 x y).1 (through_map (Chain o) (λ x y. T (has (get_or rows y 0) x)) (λ x y c. (s.chains x y).1 c) a b x y ((pairs_grow pairs n x y).0 c))),
     )
 
--- past the last pair
-pub spells_all : (pairs rows : List ℕ) (p n : ℕ) → p ≤ n → n ≤ p → Spells pairs p rows → Spells pairs n rows
-spells_all pairs rows p n l h s = subst (λ k. Spells pairs k rows) (le_antisymm l h) s
-
--- the number that a pair earns by the loop that it closes with those before it
-pub earned : (pairs rows : List ℕ) (p a b number : ℕ) → Spells pairs p rows → a ≡ first_of pairs p → b ≡ second_of pairs p → Closes rows a b number → Numbers (order_at pairs p) number p
-earned pairs rows p a b number s e f x = rw (e, f) at (x (pairs_of pairs p) p (s.chains b a))
+-- the fault of a pair by the loop that it closes with those before it
+pub earned : (pairs rows : List ℕ) (p a b : ℕ) (r : Result ⊤ Reason) → Spells pairs p rows → a ≡ first_of pairs p → b ≡ second_of pairs p → Closes rows a b r → Passes (order_at pairs p) (at_place p r)
+earned pairs rows p a b r s e f x = rw (e, f) at (x (pairs_of pairs p) p (s.chains b a))
 
 -- ---- what the checks leave
 pub held_both : (size : ℕ) (pairs : List ℕ) → Held size pairs → (p a b : ℕ) → p < length pairs / 2 → a ≡ first_of pairs p → b ≡ second_of pairs p → (a < size) × (b < size)

@@ -4,19 +4,18 @@ use mathlib.Core.Bool.{Bool, ◌||◌}
 use mathlib.Core.List.{List}
 use mathlib.Core.Logic.{◌↔◌, ◌⊎◌, inl, inr, ⊎_elim}
 use mathlib.Core.Path.{◌≡◌, refl, sym, ap, ◌∙◌}
-use Prim.Native.Nat.{ℕ, zero, suc, ◌≤◌, ◌<◌}
-use native.Mathlib.Nat.{not-suc-le-zero, le_of_suc-le-suc}
+use Prim.Native.Nat.{ℕ, ◌≤◌, ◌<◌}
 use native.Mathlib.Omega.{arith}
 use lib.Bits.{bit_or, or_zero_r}
 use lib.Dec.{T, eqb, eqb→eq}
 use lib.ListN.{length, get_or, get_or-eq_default}
-use lib.Seq.{ext_get_or}
+use Rattle.std.proofs.lemmas.List.FromFn.{length-map-range_with_len, get_or-map-range_with_len, fill_by_all}
 use Rattle.schedule.proofs.Tests.{le_or_lt, cond_case, or_left, or_right, or_split, eq→eqb}
 use Rattle.schedule.specs.Listed.{Listed, with_order}
 use Rattle.planner.specs.declared.chains.Pending.{Pending}
 use Rattle.sets.specs.Sets.{has, With}
 use Rattle.book.specs.Told.{Book, Told}
-use Rattle.planner.specs.Inner.Chains.{Links, nothing, joined_of, entries, joined_rows}
+use Rattle.planner.specs.Inner.Chains.{Links, nothing, joined_of, joined_rows}
 use Rattle.planner.specs.Inner.Tighten.{Tightenable, Tightens}
 use Rattle.sets.proofs.Bits.{or_has, empty_has}
 use Rattle.sets.proofs.Range.{with_in}
@@ -50,30 +49,22 @@ joined_same row y p f g =
 joined_nothing : (row y : ℕ) → joined_of row y nothing ≡ row
 joined_nothing row y = cond_case (λ n. n ≡ row) (has row 0 || eqb 0 y) (bit_or row 0) row (λ q. or_zero_r row) (λ h. refl)
 
--- ---- a list by its entries
-pub entries_length : (n : ℕ) (f : ℕ → ℕ) → length (entries n f) ≡ n
-unfolding entries
-entries_length zero f = refl
-entries_length (suc n) f = ap suc (entries_length n (λ i. f (suc i)))
-
-pub entries_at : (n : ℕ) (f : ℕ → ℕ) (i : ℕ) → i < n → get_or (entries n f) i 0 ≡ f i
-unfolding entries
-entries_at zero f i l = absurd (not-suc-le-zero l)
-entries_at (suc n) f zero l = refl
-entries_at (suc n) f (suc i) l = entries_at n (λ i. f (suc i)) i (le_of_suc-le-suc l)
-
 -- ---- all rows joined
 module _ (rows : List ℕ) (p : Pending) where
+  abbrev joins : ℕ → ℕ
+  joins y = joined_of (get_or rows y 0) y p
+
   pub rows_long : length (joined_rows rows p) ≡ 64
   unfolding joined_rows
-  rows_long = entries_length 64 _
+  rows_long = length-map-range_with_len joins 0 64
 
-  pub rows_at : (y : ℕ) → y < 64 → get_or (joined_rows rows p) y 0 ≡ joined_of (get_or rows y 0) y p
+  pub rows_at : (y : ℕ) → y < 64 → get_or (joined_rows rows p) y 0 ≡ joins y
   unfolding joined_rows
-  rows_at = entries_at 64 _
+  rows_at y h = get_or-map-range_with_len joins 0 64 y y 0 h (omega arith)
 
-  pub rows_are : (next : List ℕ) → length next ≡ 64 → ((y : ℕ) → y < 64 → get_or next y 0 ≡ joined_of (get_or rows y 0) y p) → next ≡ joined_rows rows p
-  rows_are next l h = ext_get_or 0 next (joined_rows rows p) (l ∙ sym rows_long) (λ y k. h y (omega arith) ∙ sym (rows_at y (omega arith)))
+  pub rows_are : (next : List ℕ) → length next ≡ 64 → ((y : ℕ) → y < 64 → get_or next y 0 ≡ joins y) → next ≡ joined_rows rows p
+  unfolding joined_rows
+  rows_are next = fill_by_all joins next 64 0
 
   -- what a row has it keeps
   pub rows_keep : (y x : ℕ) → y < 64 → T (has (get_or rows y 0) x) → T (has (get_or (joined_rows rows p) y 0) x)

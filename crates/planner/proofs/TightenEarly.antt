@@ -1,17 +1,19 @@
 -- Earliest times, job by job.
 -- Assumes nothing.
 use mathlib.Core.Bool.{Bool, true, false}
-use mathlib.Core.List.{List}
+use mathlib.Core.List.{List, ◌++◌}
 use mathlib.Core.Logic.{◌⊎◌, inl, inr, ⊎_elim}
 use mathlib.Core.Path.{◌≡◌, refl, sym, ap, subst, ◌∙◌}
-use Prim.Native.Nat.{ℕ, zero, suc, ◌+◌, ◌≤◌, ◌<◌}
+use Prim.Native.Nat.{ℕ, zero, suc, ◌+◌, ◌≤◌, ◌<◌, max}
 use native.Mathlib.Omega.{arith}
 use lib.Dec.{T, ltb, ltb→lt}
-use lib.ListN.{length, length-set, get_or, set}
+use lib.ListN.{length, length-set, length-append, get_or, get_or-append, set, take}
 use lib.Seq.{get_or-set_same, get_or-set_other}
 use borrow.Author.Count.{below_more}
 use borrow.Author.Tests.{lt-ltb, le-ltb}
 use native.Mathlib.Nat.{le_antisymm}
+use Rattle.std.proofs.lemmas.List.{get_or-take, length-take-le}
+use Rattle.std.proofs.lemmas.List.Elements.{All-from_get_or}
 use Rattle.schedule.specs.Count.{count}
 use Rattle.schedule.specs.Jobs.{Jobs, Closed, Loopless}
 use Rattle.schedule.specs.Row.{put}
@@ -22,7 +24,7 @@ use Rattle.schedule.proofs.Rows.{Put, put_cases, put_all, put_same}
 use Rattle.sets.specs.Sets.{has, Without, Below}
 use Rattle.book.specs.Told.{jobs_in, row_in}
 use Rattle.planner.specs.Inner.Tighten.Early.{Unblocked, After, Startable, Begins}
-use Rattle.schedule.proofs.Tests.{test, le_by}
+use Rattle.schedule.proofs.Tests.{test, le_by, le_or_lt}
 use Rattle.schedule.proofs.Early.{raise, raise_earliest}
 use Rattle.sets.proofs.Bits.{walk_sub, walk_split, walk_one, has_some, count_cut}
 use Rattle.sets.proofs.Range.{below_in}
@@ -34,27 +36,15 @@ pub record Reached (start set : ℕ) (early : List ℕ) (time rest : ℕ) : Type
   pub later : (a : ℕ) → T (has set a) → T (has rest a) ⊎ (get_or early a 0 + 1 ≤ time)
   pub some : (time ≡ start) ⊎ ((a : ℕ) × T (has set a) × (time ≡ get_or early a 0 + 1))
 
-pub reached_start : (start set : ℕ) (early : List ℕ) → Reached start set early start set
-reached_start start set early = record { from = omega arith; within = λ a t. t; later = λ a t. inl t; some = inl refl }
-
 module _ (start set : ℕ) (early : List ℕ) (time rest : ℕ) (r : Reached start set early time rest) where
-  module _ (k left : ℕ) (w : Without rest k left) (t : T (has rest k)) where
-    -- job k taken: the time stays, or is one above its time
-    pub reached_same : get_or early k 0 < time → Reached start set early time left
-    reached_same h = record {
-      from = r.from;
-      within = λ a u. r.within a (walk_sub rest left k w a u);
-      later = λ a u. ⊎_elim (λ v. ⊎_elim (λ e. inr (rw e (omega arith))) (λ x. inl x) (walk_split rest left k w a v)) (λ v. inr v) (r.later a u);
-      some = r.some;
-    }
-
-    pub reached_more : time ≤ get_or early k 0 → Reached start set early (get_or early k 0 + 1) left
-    reached_more h = record {
-      from = omega (arith, r.from);
-      within = λ a u. r.within a (walk_sub rest left k w a u);
-      later = λ a u. ⊎_elim (λ v. ⊎_elim (λ e. inr (rw e (omega arith))) (λ x. inl x) (walk_split rest left k w a v)) (λ v. inr (omega arith)) (r.later a u);
-      some = inr (k, r.within k t, refl);
-    }
+  -- job k taken: the time is later than its time
+  pub reached_next : (k left later : ℕ) → Without rest k left → T (has rest k) → later ≡ max time (get_or early k 0 + 1) → Reached start set early later left
+  reached_next k left later w t e = record {
+    from = omega (arith, r.from);
+    within = λ a u. r.within a (walk_sub rest left k w a u);
+    later = λ a u. ⊎_elim (λ v. ⊎_elim (λ x. inr (rw x (omega arith))) (λ x. inl x) (walk_split rest left k w a v)) (λ v. inr (omega arith)) (r.later a u);
+    some = ⊎_elim (λ h. inr (k, r.within k t, omega arith)) (λ h. let same : later ≡ time = omega arith in rw same r.some) (le_or_lt time (get_or early k 0));
+  }
 
   pub reached_after : rest ≡ 0 → After start set early time
   reached_after e = record { from = r.from; later = λ a t. ⊎_elim (λ u. absurd (has_some rest a u e)) (λ h. h) (r.later a t); some = r.some }
@@ -123,7 +113,7 @@ earliest_of size start before = raise (jobs_in size start before) size
 
 pub record Making (size : ℕ) (start before early order : List ℕ) (todo k : ℕ) : Type 0 where
   pub in_row : k ≤ size
-  pub lengths : (length early ≡ 64) × (length order ≡ 64)
+  pub lengths : (length early ≡ 64) × (length order ≡ size)
   pub inside : (j : ℕ) → T (has todo j) → j < size
   pub left : count 64 (has todo) + k ≡ size
   pub done : (i : ℕ) → i < size → T (has todo i) ⊎ (get_or early i 0 ≡ earliest_of size start before i)
@@ -139,10 +129,10 @@ module _ {size : ℕ} {start before : List ℕ} (s : Startable size start before
   e : Earliest J E
   e = raise_earliest J s.closed s.loopless
 
-  pub making_start : (early order : List ℕ) (todo : ℕ) → length early ≡ 64 → length order ≡ 64 → Below size todo → Making size start before early order todo 0
+  pub making_start : (early order : List ℕ) (todo : ℕ) → length early ≡ 64 → length order ≡ 64 → Below size todo → Making size start before early (take size order) todo 0
   making_start early order todo le lo b = record {
     in_row = omega arith;
-    lengths = (le, lo);
+    lengths = (le, length-take-le size order (omega (arith, s.few)));
     inside = λ j t. ltb→lt j size (rw (w j) at t);
     left = omega (arith, count_cut size 64 (has todo) (λ j. true) s.few (λ j l. w j ∙ lt-ltb j size l) (λ j g. w j ∙ le-ltb j size g), count_all size);
     done = λ i l. inl (subst T (sym (w i ∙ lt-ltb i size l)) tt);
@@ -197,12 +187,20 @@ module _ {size : ℕ} {start before : List ℕ} (s : Startable size start before
             here : get_or (set early i time) i 0 ≡ E i
             here = get_or-set_same early i time 0 (omega (arith, s.few, li, q.lengths.0)) ∙ timed
 
-    pub making_end : size ≤ k → Begins size start before early order
-    making_end h = record {
+    pub making_end : size ≤ k → (after : List ℕ) → Begins size start before early (order ++ after)
+    making_end h after = record {
       earliest = earliest_same J E (row_in early) all e;
       low = λ i l. omega (arith, all i l, s.few, earliest_low J E e s.closed s.loopless 65470 s.starts i l);
-      jobs = λ l x. q.jobs l (omega arith);
+      jobs = All-from_get_or (λ j. j < size) (take size (order ++ after)) 0 in_row;
     }
       where
+        long : size ≤ length (order ++ after)
+        long = omega (arith, length-append order after, q.lengths.1)
+
+        in_row : (l : ℕ) → l < length (take size (order ++ after)) → get_or (take size (order ++ after)) l 0 < size
+        in_row l x =
+            let few : l < size = omega (arith, length-take-le size (order ++ after) long) in
+            rw (get_or-take size (order ++ after) l 0 few, get_or-append order after 0 l (omega (arith, q.lengths.1))) (q.jobs l (omega arith))
+
         all : (i : ℕ) → i < size → get_or early i 0 ≡ E i
         all i l = ⊎_elim (λ t. absurd (omega (arith, q.left, count_pos 64 (has todo) i (omega (arith, s.few)) t))) (λ x. x) (q.done i l)

@@ -1,14 +1,15 @@
 -- A row lowered at one job, and step by step.
 -- Assumes nothing.
 use mathlib.Core.Logic.{⊎_elim}
-use mathlib.Core.Path.{◌≡◌, refl, ap}
-use Prim.Native.Nat.{ℕ, ◌+◌, ◌-◌, ◌≤◌, ◌<◌}
+use mathlib.Core.Path.{◌≡◌, ap}
+use Prim.Native.Nat.{ℕ, ◌+◌, ◌-◌, ◌≤◌, ◌<◌, min}
 use native.Mathlib.Nat.{le_trans}
 use native.Mathlib.Omega.{arith}
 use lib.Dec.{T}
 use Rattle.schedule.specs.Jobs.{Jobs}
 use Rattle.schedule.specs.Plan.{Valid, Meets, HasPlan}
 use Rattle.schedule.specs.Times.{N, up, Breach, Consistent, Raised, Earliest, Beneath}
+use Rattle.schedule.proofs.Tests.{le_or_lt}
 use Rattle.schedule.proofs.Rows.{put_all, put_le}
 use Rattle.schedule.proofs.Round.{up_least, up_rises}
 use Rattle.schedule.proofs.Sound.{valid_above}
@@ -54,26 +55,25 @@ module _ (m : ℕ) (pos : 1 ≤ m) (J : Jobs) (early row : ℕ → ℕ) {i : ℕ
   pub eased_same : Eased m J early row i (row i)
   eased_same = eased_by (row i) (omega arith) (λ slot v k. k.ends i l) (λ low c x. x i l)
 
-  -- one below a follower
-  pub eased_follow : Raised J early → (j : ℕ) → j < J.size → T (J.before i j) → (time : ℕ) → Eased m J early row i time → row j ≤ time → Eased m J early row i (row j - 1)
-  eased_follow r j lj t time e h =
-      eased_by (row j - 1) (omega (arith, e.below)) (λ slot v k. omega (arith, v.ordered i j l lj t, k.ends j lj))
-      (λ low c x. omega (arith, follower_later m J early low pos r c i j l lj t, x j lj))
+  -- one below a follower, where that is less
+  pub eased_follow : Raised J early → (j : ℕ) → j < J.size → T (J.before i j) → (time next : ℕ) → Eased m J early row i time → next ≡ min time (row j - 1) → Eased m J early row i next
+  eased_follow r j lj t time next e least = ⊎_elim
+      (λ h. let same : next ≡ time = omega arith in rw same e)
+      (λ h. eased_by next (omega (arith, e.below)) (λ slot v k. omega (arith, v.ordered i j l lj t, k.ends j lj))
+      (λ low c x. omega (arith, follower_later m J early low pos r c i j l lj t, x j lj)))
+      (le_or_lt time (row j - 1))
 
   module _ (e : Earliest J early) where
     -- a window shut
-    pub ruled_shut : (d : ℕ) → row i ≤ early i → Ruled m J early row i d 0
-    ruled_shut d h = record {
-      eased = eased_by 0 (omega arith) (λ slot v k. omega (arith, k.ends i l, valid_above m J early slot e v i l)) (λ low c x. omega (arith, c.window i l, x i l));
-      obeys = λ z. absurd (z refl);
-    }
+    pub ruled_shut : row i ≤ early i → Eased m J early row i 0
+    ruled_shut h = eased_by 0 (omega arith) (λ slot v k. omega (arith, k.ends i l, valid_above m J early slot e v i l)) (λ low c x. omega (arith, c.window i l, x i l))
 
     module _ {d n : ℕ} (p : Pressure m J early row i d n) (by : row i ≤ d) (open_window : early i < row i) where
       -- enough is left
-      pub ruled_still : row i + up m n ≤ d → Ruled m J early row i d (row i)
+      pub ruled_still : row i ≤ d - up m n → Ruled m J early row i d (row i)
       ruled_still h = record {
         eased = eased_same;
-        obeys = λ z s. record {
+        obeys = λ s. record {
           window = omega arith;
           own = λ b. omega (arith, b.over, up_rises m pos (N J early row i (row i) d) n (p.own b.full));
           other = λ j lj b. omega (arith, b.over, up_rises m pos (N J early row i (early j) d) n (p.other j lj b.within.from b.within.till b.full));
@@ -85,18 +85,15 @@ module _ (m : ℕ) (pos : 1 ≤ m) (J : Jobs) (early row : ℕ → ℕ) {i : ℕ
       broken h = ⊎_elim (λ z. absurd (omega (arith, (up_least m pos n 0).1 (omega arith))))
           (λ x. (x.0, record { within = x.1; full = x.2; over = omega (arith, ap (up m) x.3) }, x.3)) p.some
 
-      pub ruled_full : d < row i + up m n → d ≤ early i + up m n → Ruled m J early row i d 0
-      ruled_full h f = let b = broken h in record {
-        eased = eased_by 0 (omega arith)
-            (λ slot v k. omega (arith, plan_under m pos J early row i b.0 d b.1 e slot v k, valid_above m J early slot e v i l, ap (up m) b.2))
-            (λ low c x. omega (arith, row_under m pos J early row i b.0 d b.1 low c x, c.window i l, ap (up m) b.2));
-        obeys = λ z. absurd (z refl);
-      }
+      pub ruled_full : d - up m n < row i → d - up m n ≤ early i → Eased m J early row i 0
+      ruled_full h f = let b = broken (omega arith) in eased_by 0 (omega arith)
+          (λ slot v k. omega (arith, plan_under m pos J early row i b.0 d b.1 e slot v k, valid_above m J early slot e v i l, ap (up m) b.2))
+          (λ low c x. omega (arith, row_under m pos J early row i b.0 d b.1 low c x, c.window i l, ap (up m) b.2))
 
-      pub ruled_lower : d < row i + up m n → early i + up m n < d → Ruled m J early row i d (d - up m n)
-      ruled_lower h f = let b = broken h in record {
+      pub ruled_lower : d - up m n < row i → early i < d - up m n → Ruled m J early row i d (d - up m n)
+      ruled_lower h f = let b = broken (omega arith) in record {
         eased = eased_by (d - up m n) (omega arith)
             (λ slot v k. omega (arith, plan_under m pos J early row i b.0 d b.1 e slot v k, ap (up m) b.2))
             (λ low c x. omega (arith, row_under m pos J early row i b.0 d b.1 low c x, ap (up m) b.2));
-        obeys = λ z s. absurd (omega arith);
+        obeys = λ s. absurd (omega arith);
       }

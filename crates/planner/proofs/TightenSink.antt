@@ -11,7 +11,7 @@ use borrow.Author.Tests.{lt-ltb, le-leb}
 use lib.Bits.{bit_and, bit_or, or_add_and, and_le_l}
 use lib.Dec.{T, eqb, eqb→eq, eqb_refl, leb, leb→le, le→leb, ltb, ltb→lt, lt→ltb}
 use lib.ListN.{length, get_or, set}
-use lib.Seq.{get_or-set_same, get_or-set_other, set-get_or}
+use lib.Seq.{get_or-set_same, get_or-set_other}
 use Rattle.schedule.specs.Jobs.{Jobs}
 use Rattle.schedule.specs.Row.{put}
 use Rattle.schedule.specs.Plan.{HasPlan}
@@ -20,7 +20,7 @@ use Rattle.schedule.proofs.Tests.{test, and_pair, and_fst, and_snd, or_right, le
 use Rattle.schedule.proofs.Loop.{put_set}
 use Rattle.schedule.proofs.Few.{Few, own, other, consistent_few}
 use Rattle.planner.specs.declared.tighten.Due.{Due}
-use Rattle.planner.specs.declared.tighten.Moved.TheVariants.{Those}
+use Rattle.std.specs.Prelude.{Some}
 use Rattle.sets.specs.Sets.{has, Without}
 use Rattle.book.specs.Told.{jobs_in, row_in}
 use Rattle.planner.specs.Inner.Tighten.Tables.{Follows}
@@ -36,10 +36,7 @@ holds : (b : Bool) → T b → b ≡ true
 holds true t = refl
 holds false t = elim t [ ]
 
--- ---- a row as it is, and one after another
-pub sunk_same : (m : ℕ) (J : Jobs) (early : ℕ → ℕ) (row : List ℕ) → Sunk m J early row row
-sunk_same m J early row = record { rest = λ i g. refl; bound = record { beneath = λ i l. omega arith; plans = λ slot v k. k; rows = λ low c x. x } }
-
+-- ---- one row after another
 module _ {m : ℕ} {J : Jobs} {early : ℕ → ℕ} {first row : List ℕ} (q : Sunk m J early first row) where
   pub sunk_join : {next : List ℕ} → Sunk m J early row next → Sunk m J early first next
   sunk_join {next = next} r = record { rest = λ i g. r.rest i g ∙ q.rest i g; bound = bound_join m J early (row_in first) (row_in row) (row_in next) q.bound r.bound }
@@ -87,12 +84,9 @@ due_job size row d due s i t =
     let x : T (ltb i size && leb (row i) d) = rw (s i) at t in
     (ltb→lt i size (and_fst (ltb i size) (leb (row i) d) x), leb→le (row i) d (and_snd (ltb i size) (leb (row i) d) x))
 
-pub lowering_start : (m : ℕ) (J : Jobs) (early : ℕ → ℕ) (row : List ℕ) (d due : ℕ) → DueBy J.size (row_in row) d due → Lowering m J early row row d due 0 due
-lowering_start m J early row d due s = record { soon = s; sunk = sunk_same m J early row; still = λ z. (refl, (λ j t. inl t)); fell = λ f. absurd (f refl) }
-
 module _ {m : ℕ} {J : Jobs} {early : ℕ → ℕ} {first row : List ℕ} {d due moved rest : ℕ} (few : J.size ≤ 64) (long : length row ≡ 64) (q : Lowering m J early first row d due moved rest) where
   module _ {i time : ℕ} (left : ℕ) (in_due : T (has due i)) (w : Without rest i left)
-      (r : Ruled m J early (row_in row) i d time) (some : time ≡ 0 → ⊥) where
+      (r : Ruled m J early (row_in row) i d time) where
     job : (i < J.size) × (get_or row i 0 ≤ d)
     job = due_job J.size (row_in row) d due q.soon i in_due
 
@@ -110,26 +104,20 @@ module _ {m : ℕ} {J : Jobs} {early : ℕ → ℕ} {first row : List ℕ} {d du
         at_i : (j : ℕ) → j ≡ i → has due j ≡ (ltb j J.size && leb (get_or (set row i time) j 0) d)
         at_i j x = rw x (holds (has due i) in_due ∙ sym (ap₂ (λ (a b : Bool). a && b) (lt-ltb i J.size job.0) (le-leb (get_or (set row i time) i 0) d (omega (arith, stored, job.1)))))
 
-    pub lowering_kept : get_or row i 0 ≤ time → Lowering m J early first (set row i time) d due moved left
-    lowering_kept h = subst (λ (x : List ℕ). Lowering m J early first x d due moved left) (sym as_was) (record {
+    pub lowering_kept : get_or row i 0 ≤ time → Lowering m J early first row d due moved left
+    lowering_kept h = record {
       soon = q.soon;
       sunk = q.sunk;
       still = λ z. (
         (q.still z).0,
         (λ j t. ⊎_elim
-            (λ u. ⊎_elim (λ x. inr (rw x (subst (λ (y : List ℕ). Obeys m J early (row_in y) i d) (q.still z).0 (r.obeys some same)))) (λ x. inl x) (walk_split rest left i w j u))
+            (λ u. ⊎_elim (λ x. inr (rw x (subst (λ (y : List ℕ). Obeys m J early (row_in y) i d) (q.still z).0 (r.obeys (le_antisymm r.eased.below h))))) (λ x. inl x) (walk_split rest left i w j u))
             (λ u. inr u) ((q.still z).1 j t)),
       );
       fell = q.fell;
-    })
-      where
-        same : time ≡ get_or row i 0
-        same = le_antisymm r.eased.below h
+    }
 
-        as_was : set row i time ≡ row
-        as_was = ap (λ (n : ℕ). set row i n) same ∙ set-get_or row i 0
-
-  pub lowering_moves : DueBy J.size (row_in first) d due → rest ≡ 0 → Moves m J early first row (AtD m J early (row_in first) d) (Those moved)
+  pub lowering_moves : DueBy J.size (row_in first) d due → rest ≡ 0 → Moves m J early first row (AtD m J early (row_in first) d) (Some moved)
   lowering_moves s e = (
     q.sunk,
     (λ z. (
@@ -143,61 +131,35 @@ module _ {m : ℕ} {J : Jobs} {early : ℕ → ℕ} {first row : List ℕ} {d du
 -- ---- a pass: every d from the limit on is done
 pub record Passing (m : ℕ) (J : Jobs) (early : ℕ → ℕ) (first row : List ℕ) (moved limit : ℕ) : Type 0 where
   pub sunk : Sunk m J early first row
-  pub still : moved ≡ 0 → (row ≡ first) × ((k : ℕ) → k < J.size → limit ≤ get_or first k 0 → get_or first k 0 < 65536 → AtD m J early (row_in first) (get_or first k 0))
+  pub still : moved ≡ 0 → (row ≡ first) × ((k : ℕ) → k < J.size → limit ≤ get_or first k 0 → AtD m J early (row_in first) (get_or first k 0))
   pub fell : (moved ≡ 0 → ⊥) → Fell J first row
-  pub fresh : 65536 ≤ limit → row ≡ first
-  pub low : limit < 65536 → (k : ℕ) → k < J.size → get_or first k 0 < 65536
 
-pub passing_start : (m : ℕ) (J : Jobs) (early : ℕ → ℕ) (row : List ℕ) → Passing m J early row row 0 65536
-passing_start m J early row = record {
-  sunk = sunk_same m J early row;
-  still = λ z. (refl, (λ k l g h. absurd (omega arith)));
-  fell = λ f. absurd (f refl);
-  fresh = λ h. refl;
-  low = λ h. absurd (omega arith);
-}
-
-module _ {m : ℕ} {J : Jobs} {early : ℕ → ℕ} {first row : List ℕ} {moved limit : ℕ} (q : Passing m J early first row moved limit) {r : Due} (b : DueBelow limit J.size row r) where
-  in_set : (k : ℕ) → k < J.size → get_or row k 0 < limit → T (has r.jobs k)
-  in_set k l h = rw (b.jobs k) (and_pair (ltb k J.size) (ltb (get_or row k 0) limit) (lt→ltb k J.size l) (lt→ltb (get_or row k 0) limit h))
-
-  -- the first look at the row finds every time in 16 bits
-  passing_low : (k : ℕ) → k < J.size → get_or first k 0 < 65536
-  passing_low k l = ⊎_elim (λ h. subst (λ (x : List ℕ). get_or x k 0 < 65536) (q.fresh h) (b.low h k l)) (λ h. q.low h k l) (le_or_lt 65536 limit)
-
+module _ {m : ℕ} {J : Jobs} {early : ℕ → ℕ} {first row : List ℕ} {moved limit : ℕ} (q : Passing m J early first row moved limit) where
   -- nothing moved at d
-  pub passing_still : {next : List ℕ} → r.d < 65536 → next ≡ row → AtD m J early (row_in row) r.d → Passing m J early first next moved r.d
-  passing_still small e obeyed = subst (λ (x : List ℕ). Passing m J early first x moved r.d) (sym e) (record {
+  pub passing_still : {next : List ℕ} {r : Due} → DueBelow limit J.size row r → next ≡ row → AtD m J early (row_in row) r.d → Passing m J early first next moved r.d
+  passing_still {r = r} b e obeyed = subst (λ (x : List ℕ). Passing m J early first x moved r.d) (sym e) (record {
     sunk = q.sunk;
-    still = λ z. ((q.still z).0, (λ k l h x. ⊎_elim (λ g. (q.still z).1 k l g x) (λ g. here z k l h g) (le_or_lt limit (get_or first k 0))));
+    still = λ z. ((q.still z).0, (λ k l h. ⊎_elim (λ g. (q.still z).1 k l g) (λ g. here z k l h g) (le_or_lt limit (get_or first k 0))));
     fell = q.fell;
-    fresh = λ h. absurd (omega arith);
-    low = λ h. passing_low;
   })
     where
       here : moved ≡ 0 → (k : ℕ) → k < J.size → r.d ≤ get_or first k 0 → get_or first k 0 < limit → AtD m J early (row_in first) (get_or first k 0)
       here z k l h g =
           let same : get_or row k 0 ≡ get_or first k 0 = ap (λ (x : List ℕ). get_or x k 0) (q.still z).0 in
-          let top : get_or first k 0 ≡ r.d = le_antisymm (omega (arith, same, b.top k (in_set k l (omega (arith, same))))) h in
+          let in_set : T (has r.jobs k) = rw (b.jobs k) (and_pair (ltb k J.size) (ltb (get_or row k 0) limit) (lt→ltb k J.size l) (lt→ltb (get_or row k 0) limit (omega arith))) in
+          let top : get_or first k 0 ≡ r.d = le_antisymm (omega (arith, same, b.top k in_set)) h in
           subst (λ (n : ℕ). AtD m J early (row_in first) n) (sym top) (subst (λ (x : List ℕ). AtD m J early (row_in x) r.d) (q.still z).0 obeyed)
 
   -- some jobs moved, and those before them followed
-  pub passing_moved : {low next : List ℕ} {all : ℕ} → r.d < 65536 → (all ≡ 0 → ⊥) → Sunk m J early row low → Fell J row low → Sunk m J early low next → Passing m J early first next all r.d
-  passing_moved small some x f y = record {
-    sunk = sunk_join q.sunk (sunk_join x y);
-    still = λ z. absurd (some z);
-    fell = λ g. fell_then q.sunk f y;
-    fresh = λ h. absurd (omega arith);
-    low = λ h. passing_low;
-  }
+  pub passing_moved : {low next : List ℕ} {all : ℕ} (d : ℕ) → (all ≡ 0 → ⊥) → Sunk m J early row low → Fell J row low → Sunk m J early low next → Passing m J early first next all d
+  passing_moved d some x f y = record { sunk = sunk_join q.sunk (sunk_join x y); still = λ z. absurd (some z); fell = λ g. fell_then q.sunk f y }
 
-  pub passing_moves : r.jobs ≡ 0 → Moves m J early first row (Swept m J early (row_in first)) (Those moved)
-  passing_moves e = (
+  pub passing_moves : ((k : ℕ) → k < J.size → limit ≤ get_or row k 0) → Moves m J early first row (Swept m J early (row_in first)) (Some moved)
+  passing_moves none = (
     q.sunk,
     (λ z. (
       (q.still z).0,
-      (λ k l. (q.still z).1 k l (⊎_elim (λ g. g)
-          (λ g. absurd (has_some r.jobs k (in_set k l (omega (arith, ap (λ (x : List ℕ). get_or x k 0) (q.still z).0))) e)) (le_or_lt limit (get_or first k 0))) (passing_low k l)),
+      (λ k l. (q.still z).1 k l (omega (arith, none k l, ap (λ (x : List ℕ). get_or x k 0) (q.still z).0))),
     )),
     q.fell,
   )
@@ -230,6 +192,3 @@ module _ (m : ℕ) (pos : 1 ≤ m) (size : ℕ) (start before row next : List �
     where
       sunk : fits ≡ true → Sunk m J (row_in early) row next
       sunk b = sunk_join q (s.sunk b)
-
-  pub tightens_none : (HasPlan m J (row_in row) → ⊥) → Tightens m size start before row next false
-  tightens_none f = record { length = long; latest = λ b. absurd (subst T (sym b) tt); rest = λ b. absurd (subst T (sym b) tt); none = λ b. f }

@@ -2,11 +2,15 @@
 -- Assumes nothing.
 use mathlib.Core.Bool.{Bool, true, false}
 use mathlib.Core.List.{List}
-use mathlib.Core.Path.{◌≡◌, refl, sym, subst}
+use mathlib.Core.Path.{◌≡◌, refl, sym, subst, ◌∙◌}
 use Prim.Native.Nat.{ℕ, ◌<◌}
 use native.Mathlib.Omega.{arith}
 use lib.Dec.{T, eqb, eqb→eq}
 use lib.ListN.{get_or, replicate}
+use Rattle.std.specs.Bool.{Decides}
+use Rattle.std.specs.Cmp.Lexicographic.{pointwise}
+use Rattle.std.proofs.lemmas.Bool.Decides.{Decides-eqb}
+use Rattle.std.proofs.lemmas.Slice.Eq.{slice_eq-Decides}
 use Rattle.schedule.proofs.Tests.{eq→eqb}
 use Rattle.book.specs.Told.{book_in, nothing_listed, Made}
 use Rattle.book.proofs.Empty.{told_nothing}
@@ -24,6 +28,12 @@ whether_as f g w = record { yes = λ e. f (w.yes e); no = λ e x. w.no e (g x) }
 
 pub whether_eq : {P : Type 0} (x y : ℕ) → (x ≡ y → P) → (P → x ≡ y) → Whether P (eqb x y)
 whether_eq x y f g = record { yes = λ e. f (eqb→eq x y (true_T _ e)); no = λ e p. false_T _ e (eq→eqb x y (g p)) }
+
+-- two lists compared by `==`
+pub whether_same : (xs ys : List ℕ) (r : Bool) → r ≡ pointwise eqb xs ys → Whether (xs ≡ ys) r
+whether_same xs ys r e =
+    let d : Decides r (xs ≡ ys) = slice_eq-Decides Decides-eqb xs ys r e in
+    record { yes = d.0; no = λ n same. subst T (sym (d.1 same) ∙ n) tt }
 
 -- there is one answer
 pub whether_only : (P : Type 0) (r s : Bool) → Whether P r → Whether P s → r ≡ s

@@ -1,8 +1,7 @@
 -- What the planner's private functions promise to each other. Nobody has to believe these: the public promises are proved from them.
 pub mod Chains
 pub mod Tighten
-pub mod Rows
-pub mod Numbers
+pub mod Passes
 pub mod Requests
 pub mod Entries
 pub mod List

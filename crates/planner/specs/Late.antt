@@ -1,22 +1,22 @@
 -- How late a whole list is, and how short a plan of it can be (02, A2).
 -- Assumes nothing.
-use Rattle.std.specs.Prelude.{List, ◌≡◌, ℕ, ◌≤◌, ◌<◌, ℤ, pos, length}
+use Rattle.std.specs.Prelude.{List, ◌≡◌, ℕ, ◌<◌, ℤ, pos, length, Result, Ok, Err}
 use Rattle.std.proofs.Math.IntN.{sub_ℕ}
 use Rattle.schedule.specs.Jobs.{Jobs}
 use Rattle.schedule.specs.Listed.{Listed, Reads, written}
 use Rattle.schedule.specs.Late.{Lateness}
 use Rattle.schedule.specs.Shortest.{Shortest}
+use Rattle.refusal.specs.declared.Refusal.{Refusal}
+use Rattle.refusal.specs.Says.{reason_number}
 use Rattle.refusal.specs.Table.{Checks, check, ◌then◌, Table}
 use Rattle.book.specs.Told.{cores}
 use Rattle.planner.specs.Requests.{plan_check}
 use Rattle.planner.specs.List.{list_of, Uneven, entries_checks}
-use Rattle.planner.specs.declared.late.Late.{Late}
-use Rattle.planner.specs.declared.late.Late.TheVariants.{By, Refused}
 
 -- the number, 0 for accepted, and the value of every case, of which a promise says P (01, Code places: "a definition gives this paper's number and values for every case of the enum")
-abbrev pub Lates : Late → (ℕ → ℤ → Type 0) → Type 0
-Lates (By slots) P = P 0 slots
-Lates (Refused number value) P = (1 ≤ number) × P number (pos value)
+abbrev pub Lates : Result ℤ Refusal → (ℕ → ℤ → Type 0) → Type 0
+Lates (Ok slots) P = P 0 slots
+Lates (Err refusal) P = P (reason_number refusal.reason) (pos refusal.value)
 
 -- ---- how late
 -- "14 lateness of an empty list .. after 7 and 1", "never gives 4"; no row receives, and the rest is a whole list's

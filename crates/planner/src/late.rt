@@ -1,48 +1,35 @@
 // How late a whole list is, and how short a plan of it can be: both by halving over the engine.
-ghost use Rattle.std.specs.Prelude.{◌≡◌, ℕ, min, ◌+◌, ◌-◌, ◌≤◌, ◌<◌, length, get_or};
+ghost use Rattle.std.specs.Prelude.{◌≡◌, ℕ, ◌≤◌, length};
+ghost use Rattle.std.proofs.Common.{arith};
 ghost use Rattle.schedule.specs.Theory.Lowest.{Lowest, Narrowed};
 ghost use Rattle.refusal.specs.Says.{Says};
 ghost use Rattle.planner.specs.Late.{Lates, Latens, Shortens, from_origin};
 ghost use Rattle.planner.specs.Memory.{Whether};
-ghost use Rattle.planner.specs.Inner.List.{Judgeable};
-ghost use Rattle.planner.specs.Inner.Late.{tried_of, Fills, Leaves, Ends};
+ghost use Rattle.planner.specs.Inner.Late.{moved_by, capped_at, Fills, Leaves};
 
-use crate::chains::Pending;
-use crate::times::wide;
-use crate::{entries, tighten};
-use refusal::Answer;
-
-#[derive(Clone, Copy)]
-pub enum Late {
-    // the least maximum lateness, in slots; below 0 where every job can end before its deadline
-    By(i16),
-    Refused(u8, usize),
-}
-
-// How deadlines are tried at a number: all moved by the number less 4096, or each at most the number.
-#[derive(Clone, Copy)]
-enum Trial {
-    Moved,
-    Capped,
-}
+use crate::entries;
+use crate::judged::Rows;
+use refusal::{Answer, Reason, Refusal};
 
 // The least number of slots by which all deadlines can be moved so that a valid plan exists.
-pub fn lateness(starts: &[u16], deadlines: &[u16], pairs: &[u16]) -> Late
+pub fn lateness(starts: &[u16], deadlines: &[u16], pairs: &[u16]) -> Result<i16, Refusal>
     ensures { Lates result (Latens starts.now deadlines.now pairs.now) }
 {
     if entries::uneven(starts, deadlines, pairs) {
-        return Late::Refused(7, 0);
+        return Err(Reason::Uneven.into());
     }
-    if starts.len() == 0 {
-        return Late::Refused(14, 0);
+    if starts.is_empty() {
+        return Err(Reason::NoJobs.into());
     }
-    let mut rows = [0u64; 64];
-    let found = entries::faulty(starts, deadlines, pairs, &mut rows);
-    if found.number != 0 {
-        return Late::Refused(found.number, found.place);
-    }
+    let mut before = [0u64; 64];
+    entries::faulty(starts, deadlines, pairs, &mut before)?;
+    let rows = Rows {
+        starts,
+        deadlines,
+        before: &before,
+    };
     // from 4096 slots earlier, by which no job ends, to 4158 later, by which each has a slot of its own
-    Late::By(signed(least(starts, deadlines, &rows, Trial::Moved, 1, 8254)))
+    Ok(signed(rows.least::<Moved>(1, 8254)))
 }
 
 // The shortest finishing time among the valid plans that meet the deadlines.
@@ -50,120 +37,104 @@ pub fn shortest(starts: &[u16], deadlines: &[u16], pairs: &[u16]) -> Answer
     ensures { Says result (Shortens starts.now deadlines.now pairs.now) }
 {
     if entries::uneven(starts, deadlines, pairs) {
-        return Answer::Refused(7, 0);
+        return Err(Reason::Uneven.into());
     }
-    let mut rows = [0u64; 64];
-    let found = entries::faulty(starts, deadlines, pairs, &mut rows);
-    if found.number != 0 {
-        return Answer::Refused(found.number, found.place);
+    let mut before = [0u64; 64];
+    entries::faulty(starts, deadlines, pairs, &mut before)?;
+    if starts.is_empty() {
+        return Ok(0);
     }
-    shorten(starts, deadlines, &rows)
+    let rows = Rows {
+        starts,
+        deadlines,
+        before: &before,
+    };
+    // the last check, and the search: one judgement and at most twelve
+    if !rows.leaves::<Capped>(4096) {
+        return Err(Reason::NoPlan.into());
+    }
+    Ok(rows.least::<Capped>(1, 4096))
 }
 
-// The last check, and the search: one judgement and at most twelve.
-fn shorten<'a>(starts: &'a [u16], deadlines: &[u16], before: &'a [u64; 64]) -> Answer
-    requires { Judgeable starts.now deadlines.now before.now }
-    ensures { Says result (Ends starts.now deadlines.now before.now) }
-{
-    if starts.len() == 0 {
-        return Answer::Accepted(0);
-    }
-    if !leaves(starts, deadlines, before, Trial::Capped, 4096) {
-        return Answer::Refused(4, 0);
-    }
-    Answer::Accepted(least(starts, deadlines, before, Trial::Capped, 1, 4096))
+// How a deadline is tried at a number, the later the greater it is.
+trait Trial {
+    ghost tried: { ℕ → ℕ → ℕ };
+
+    fn tried(deadline: u16, k: usize) -> u16
+        requires { (deadline ≤ 4096) × (k ≤ 8254) }
+        ensures { result ≡ tried deadline k };
+
+    ghost rising: { (deadline j k : ℕ) → j ≤ k → tried deadline j ≤ tried deadline k };
 }
 
-// The least number from low to high at which the deadlines tried leave a plan; high is one.
-fn least<'a>(
-    starts: &'a [u16],
-    deadlines: &[u16],
-    before: &'a [u64; 64],
-    how: Trial,
-    low: usize,
-    high: usize,
-) -> usize
-    requires { Judgeable starts.now deadlines.now before.now × (high ≤ 8254) × Narrowed (Leaves how starts.now deadlines.now before.now) low high }
-    ensures { (result ≤ high) × Lowest (Leaves how starts.now deadlines.now before.now) result }
-{
-    let mut from = low;
-    let mut to = high;
-    while from < to {
-        let mid = (from + to) / 2;
-        if leaves(starts, deadlines, before, how, mid) {
-            to = mid;
-        } else {
-            from = mid + 1;
+// Moved by the number less 4096; 0, by which no job ends, where it would fall below 0.
+struct Moved;
+
+impl Trial for Moved {
+    ghost tried = { moved_by };
+
+    ghost rising = { λ deadline j k h. Prim.omega arith };
+
+    fn tried(deadline: u16, k: usize) -> u16 {
+        (usize::from(deadline) + k).saturating_sub(4096) as u16
+    }
+}
+
+// At most the number.
+struct Capped;
+
+impl Trial for Capped {
+    ghost tried = { capped_at };
+
+    ghost rising = { λ deadline j k h. Prim.omega arith };
+
+    fn tried(deadline: u16, k: usize) -> u16 {
+        usize::from(deadline).min(k) as u16
+    }
+}
+
+impl<'a> Rows<'a> {
+    // The least number from low to high at which the deadlines tried leave a plan; high is one.
+    fn least<T: Trial>(&self, low: usize, high: usize) -> usize
+        requires { let r = self.now in (high ≤ 8254) × Narrowed (Leaves T.tried r.starts.now r.deadlines.now r.before.now) low high }
+        ensures { let r = self.now in (result ≤ high) × Lowest (Leaves T.tried r.starts.now r.deadlines.now r.before.now) result }
+    {
+        let mut from = low;
+        let mut to = high;
+        while from < to {
+            let mid = (from + to) / 2;
+            if self.leaves::<T>(mid) {
+                to = mid;
+            } else {
+                from = mid + 1;
+            }
         }
+        to
     }
-    to
-}
 
-// Whether some plan meets the deadlines tried at a number.
-fn leaves<'a>(
-    starts: &'a [u16],
-    deadlines: &[u16],
-    before: &'a [u64; 64],
-    how: Trial,
-    k: usize,
-) -> bool
-    requires { Judgeable starts.now deadlines.now before.now × (k ≤ 8254) }
-    ensures { Whether (Leaves how starts.now deadlines.now before.now k) result }
-{
-    let mut row = [0u16; 64];
-    if fill(starts, deadlines, how, k, &mut row) {
-        return tighten::tighten(starts.len(), starts, before, Pending::none(), &mut row);
+    // Whether some plan meets the deadlines tried at a number.
+    fn leaves<T: Trial>(&self, k: usize) -> bool
+        requires { k ≤ 8254 }
+        ensures { let r = self.now in Whether (Leaves T.tried r.starts.now r.deadlines.now r.before.now k) result }
+    {
+        let mut row = [0u16; 64];
+        self.fill::<T>(k, &mut row) && self.tighten(&mut row)
     }
-    false
-}
 
-// The deadlines tried at a number, in a row; false as soon as one is not above its job's start, where no plan meets them and the engine need not be asked.
-fn fill(starts: &[u16], deadlines: &[u16], how: Trial, k: usize, row: &mut [u16; 64]) -> bool
-    requires { (length starts.now ≡ length deadlines.now) × (length starts.now ≤ 64) × ((i : ℕ) → i < length starts.now → get_or deadlines.now i 0 ≤ 4096) × (length row.old ≡ 64) × (k ≤ 8254) }
-    ensures { Fills how starts.now deadlines.now k row.new result }
-{
-    let mut i: usize = 0;
-    while i < starts.len() {
-        let due = tried(how, deadlines[i], k);
-        if due <= starts[i] {
-            return false;
+    // The deadlines tried at a number, in a row; false as soon as one is not above its job's start, where no plan meets them and the engine need not be asked.
+    fn fill<T: Trial>(&self, k: usize, row: &mut [u16; 64]) -> bool
+        requires { k ≤ 8254 }
+        ensures { let r = self.now in Fills T.tried r.starts.now r.deadlines.now k row.new result }
+    {
+        for (i, (&start, &deadline)) in self.starts.iter().zip(self.deadlines).enumerate() {
+            let due = T::tried(deadline, k);
+            if due <= start {
+                return false;
+            }
+            row[i] = due;
         }
-        row[i] = due;
-        i += 1;
+        true
     }
-    true
-}
-
-// One of them; a deadline that would fall below 0 is 0, by which no job ends.
-fn tried(how: Trial, deadline: u16, k: usize) -> u16
-    requires { (deadline ≤ 4096) × (k ≤ 8254) }
-    ensures { result ≡ tried_of how deadline k }
-{
-    match how {
-        Trial::Moved => moved(deadline, k),
-        Trial::Capped => capped(deadline, k),
-    }
-}
-
-fn moved(deadline: u16, k: usize) -> u16
-    requires { (deadline ≤ 4096) × (k ≤ 8254) }
-    ensures { result ≡ deadline + k - 4096 }
-{
-    let due = wide(deadline) + k;
-    if due < 4096 {
-        return 0;
-    }
-    (due - 4096) as u16
-}
-
-fn capped(deadline: u16, k: usize) -> u16
-    requires { k ≤ 8254 }
-    ensures { result ≡ min deadline k }
-{
-    if wide(deadline) < k {
-        return deadline;
-    }
-    k as u16
 }
 
 // A move as a whole number.

@@ -4,15 +4,15 @@
 
 mod chains;
 mod entries;
+mod judged;
 mod late;
 mod list;
 mod memory;
 mod requests;
-mod rows;
 mod tighten;
 mod times;
 
-pub use late::{Late, lateness, shortest};
+pub use late::{lateness, shortest};
 pub use list::judge;
 pub use memory::is_book;
 pub use requests::{Request, apply};

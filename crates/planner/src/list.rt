@@ -2,46 +2,42 @@
 ghost use Rattle.std.specs.Prelude.{◌≤◌, length};
 ghost use Rattle.refusal.specs.Says.{Says};
 ghost use Rattle.planner.specs.List.{Judges, judged};
-ghost use Rattle.planner.specs.Inner.List.{Judgeable, Settles};
+ghost use Rattle.planner.specs.Inner.List.{Settles};
 
-use crate::chains::Pending;
-use crate::{entries, rows, tighten};
-use refusal::Answer;
+use crate::entries;
+use crate::judged::Rows;
+use refusal::{Answer, Reason};
 
 // The list judged, and its latest times in the receiving row; a refusal leaves the row as it was.
 pub fn judge(starts: &[u16], deadlines: &[u16], pairs: &[u16], latest: &mut [u16]) -> Answer
     ensures { Says result (λ n v. Judges starts.now deadlines.now pairs.now latest.old (judged latest.new n v)) }
 {
-    if entries::uneven(starts, deadlines, pairs) {
-        return Answer::Refused(7, 0);
+    if entries::uneven(starts, deadlines, pairs) || latest.len() < starts.len() {
+        return Err(Reason::Uneven.into());
     }
-    if latest.len() < starts.len() {
-        return Answer::Refused(7, 0);
-    }
-    let mut rows = [0u64; 64];
-    let found = entries::faulty(starts, deadlines, pairs, &mut rows);
-    if found.number != 0 {
-        return Answer::Refused(found.number, found.place);
-    }
-    settle(starts, deadlines, &rows, latest)
+    let mut before = [0u64; 64];
+    entries::faulty(starts, deadlines, pairs, &mut before)?;
+    let rows = Rows {
+        starts,
+        deadlines,
+        before: &before,
+    };
+    rows.settle(latest)
 }
 
-// The last check: the latest times handed over, or refusal 4.
-fn settle<'a>(
-    starts: &'a [u16],
-    deadlines: &[u16],
-    before: &'a [u64; 64],
-    latest: &mut [u16],
-) -> Answer
-    requires { Judgeable starts.now deadlines.now before.now × (length starts.now ≤ length latest.old) }
-    ensures { Says result (λ n v. Settles starts.now deadlines.now before.now latest.old (judged latest.new n v)) }
-{
-    let size = starts.len();
-    let mut row = [0u16; 64];
-    rows::hand_over(deadlines, size, &mut row);
-    if tighten::tighten(size, starts, before, Pending::none(), &mut row) {
-        rows::hand_over(&row, size, latest);
-        return Answer::Accepted(0);
+impl Rows<'_> {
+    // The last check: the latest times handed over, or refusal 4.
+    fn settle(&self, latest: &mut [u16]) -> Answer
+        requires { length self.now.starts.now ≤ length latest.old }
+        ensures { let r = self.now in Says result (λ n v. Settles r.starts.now r.deadlines.now r.before.now latest.old (judged latest.new n v)) }
+    {
+        let size = self.starts.len();
+        let mut row = [0u16; 64];
+        row[..size].copy_from_slice(self.deadlines);
+        if !self.tighten(&mut row) {
+            return Err(Reason::NoPlan.into());
+        }
+        latest[..size].copy_from_slice(&row[..size]);
+        Ok(0)
     }
-    Answer::Refused(4, 0)
 }

@@ -4,25 +4,17 @@ mod rule;
 mod sink;
 mod tables;
 
-ghost use Rattle.std.specs.Prelude.{◌≡◌, ℕ, ◌<◌, ◌≤◌, T, length, get_or};
+ghost use Rattle.std.specs.Prelude.{◌≡◌, ℕ, ◌<◌, ◌≤◌, T, MatchOption, get_or};
 ghost use Rattle.schedule.specs.Jobs.{Jobs};
 ghost use Rattle.sets.specs.Sets.{has};
-ghost use Rattle.book.specs.Told.{cores};
-ghost use Rattle.book.specs.Told.{row_in};
+ghost use Rattle.book.specs.Told.{cores, row_in};
 ghost use Rattle.planner.specs.Inner.Chains.{joined_rows};
-ghost use Rattle.planner.specs.Inner.Tighten.{Tightenable, Tightens, Tabled, DueAmong, AtD, Swept, Moves, Settles};
-ghost use Rattle.planner.specs.Inner.Tighten.Tables.{Rising, Known};
+ghost use Rattle.planner.specs.Inner.Tighten.{Tightenable, Tightens, NoneAmong, DueAmong, AtD, Swept, Moves, Settles};
+ghost use Rattle.planner.specs.Inner.Tighten.Known.{Known, SomeKnown};
 ghost use Rattle.planner.specs.Inner.Tighten.Rule.{DueBy};
 
 use crate::chains::Pending;
-use crate::times::{time_at, wide};
-
-// Which jobs moved; Shut where some job has no time left.
-#[derive(Clone, Copy)]
-enum Moved {
-    Those(u64),
-    Shut,
-}
+use tables::{Starts, Tables};
 
 // The latest row beneath the row lent, in its place, with the order pending; false where no plan meets it.
 pub fn tighten<'a>(
@@ -40,140 +32,104 @@ pub fn tighten<'a>(
     early::earliest(size, start, before, pending, &mut early, &mut order);
     let mut followers = [0u64; 64];
     tables::followers(size, before, pending, &mut followers);
-    let mut times = [65535u16; 65];
-    let mut late = [0u64; 65];
+    let mut starts = Starts {
+        count: 0,
+        times: [65535; 65],
+        late: [0; 65],
+    };
     let mut rank = [0u8; 64];
-    tables::levels(size, &early, &mut times, &mut late, &mut rank);
-    if sink::sink(size, sets::below(size), &order, &followers, row) {
-        return settled(size, &order, &followers, &times, &late, &rank, row);
-    }
-    false
-}
-
-// Passes until one moves nothing.
-fn settled<'a>(
-    size: usize,
-    order: &'a [u8; 64],
-    followers: &'a [u64; 64],
-    times: &'a [u16; 65],
-    late: &'a [u64; 65],
-    rank: &'a [u8; 64],
-    row: &mut [u16; 64],
-) -> bool
-    requires { Tabled size order.now followers.now times.now late.now rank.now row.old }
-    ensures { (length row.new ≡ 64) × ((J : Jobs) (early : ℕ → ℕ) → J.size ≡ size → Known J early followers.now times.now late.now rank.now → Settles cores J early row.old row.new result) }
-{
-    loop {
-        match pass(size, order, followers, times, late, rank, row) {
-            Moved::Those(moved) => {
-                if moved == 0 {
-                    return true;
-                }
-            }
-            Moved::Shut => {
-                return false;
-            }
-        }
-    }
-}
-
-// Every d of the row, from the greatest down: while nothing moves, only jobs due before can be due next.
-fn pass<'a>(
-    size: usize,
-    order: &'a [u8; 64],
-    followers: &'a [u64; 64],
-    times: &'a [u16; 65],
-    late: &'a [u64; 65],
-    rank: &'a [u8; 64],
-    row: &mut [u16; 64],
-) -> Moved
-    requires { Tabled size order.now followers.now times.now late.now rank.now row.old }
-    ensures { (length row.new ≡ 64) × ((J : Jobs) (early : ℕ → ℕ) → J.size ≡ size → Known J early followers.now times.now late.now rank.now → Moves cores J early row.old row.new (Swept cores J early (row_in row.old)) result) }
-{
-    let mut all: u64 = 0;
-    let mut limit: usize = 65536;
-    let mut among = sets::below(size);
-    loop {
-        let due = due_below(limit, among, row);
-        if due.jobs == 0 {
-            return Moved::Those(all);
-        }
-        among = due.jobs;
-        match lower_at(due.d, due.jobs, followers, times, late, rank, row) {
-            Moved::Those(moved) => {
-                if moved != 0 {
-                    if !sink::sink(size, moved, order, followers, row) {
-                        return Moved::Shut;
-                    }
-                    all = all | moved;
-                    among = sets::below(size);
-                }
-            }
-            Moved::Shut => {
-                return Moved::Shut;
-            }
-        }
-        limit = due.d;
-    }
+    starts.fill(size, &early, &mut rank);
+    let tables = Tables {
+        size,
+        order: &order,
+        followers: &followers,
+        times: &starts.times,
+        late: &starts.late,
+        rank: &rank,
+    };
+    tables.sink(sets::below(size), row) && tables.settled(row)
 }
 
 // The jobs of a set whose time is below a limit, and the greatest such time.
 #[derive(Clone, Copy)]
 struct Due {
-    d: usize,
+    d: u16,
     jobs: u64,
 }
 
-fn due_below(limit: usize, among: u64, row: &[u16; 64]) -> Due
-    ensures { DueAmong limit among row.now result }
-{
-    let mut d: usize = 0;
-    let mut jobs: u64 = 0;
-    let mut rest = among;
-    while rest != 0 {
-        let job = sets::first(rest);
-        let i = job.0;
-        let time = time_at(row, i);
-        if time < limit {
-            jobs = sets::with(jobs, job);
-            if d < time {
-                d = time;
+impl Due {
+    // None where no time is below the limit.
+    fn below(limit: usize, among: u64, row: &[u16; 64]) -> Option<Due>
+        ensures { MatchOption result (NoneAmong limit among row.now) (DueAmong limit among row.now) }
+    {
+        let mut d: u16 = 0;
+        let mut jobs: u64 = 0;
+        for job in sets::Jobs(among) {
+            let time = row[job.0];
+            if usize::from(time) < limit {
+                jobs = sets::with(jobs, job);
+                d = d.max(time);
             }
         }
-        rest = sets::rest(rest);
+        if jobs == 0 {
+            return None;
+        }
+        Some(Due { d, jobs })
     }
-    Due { d, jobs }
 }
 
-// The rule at one d, for every job that is due.
-fn lower_at<'a>(
-    d: usize,
-    due: u64,
-    followers: &'a [u64; 64],
-    times: &'a [u16; 65],
-    late: &'a [u64; 65],
-    rank: &'a [u8; 64],
-    row: &mut [u16; 64],
-) -> Moved
-    requires { Rising times.now × (length row.old ≡ 64) × ((j : ℕ) → T (has due j) → (get_or rank.now j 0 < 65) × (get_or row.old j 0 ≤ d)) × (d < 65536) }
-    ensures { (length row.new ≡ 64) × ((J : Jobs) (early : ℕ → ℕ) → Known J early followers.now times.now late.now rank.now → DueBy J.size (row_in row.old) d due → Moves cores J early row.old row.new (AtD cores J early (row_in row.old) d) result) }
-{
-    let mut moved: u64 = 0;
-    let mut rest = due;
-    while rest != 0 {
-        let job = sets::first(rest);
-        let i = job.0;
-        let held = wide(row[i]);
-        let from = rank[i] as usize;
-        let time = rule::lowered(job, held, d, due, followers[i], from, times, late);
-        row[i] = time as u16;
-        if time == 0 {
-            return Moved::Shut;
+impl Tables<'_> {
+    // Passes until one moves nothing.
+    fn settled(&self, row: &mut [u16; 64]) -> bool
+        requires { SomeKnown self.now }
+        ensures { (J : Jobs) (early : ℕ → ℕ) → Known J early self.now → Settles cores J early row.old row.new result }
+    {
+        while let Some(moved) = self.pass(row) {
+            if moved == 0 {
+                return true;
+            }
         }
-        if time < held {
-            moved = sets::with(moved, job);
-        }
-        rest = sets::rest(rest);
+        false
     }
-    Moved::Those(moved)
+
+    // Every d of the row, from the greatest down: which jobs moved, None where some job has no time left.
+    fn pass(&self, row: &mut [u16; 64]) -> Option<u64>
+        requires { SomeKnown self.now }
+        ensures { (J : Jobs) (early : ℕ → ℕ) → Known J early self.now → Moves cores J early row.old row.new (Swept cores J early (row_in row.old)) result }
+    {
+        let mut all: u64 = 0;
+        let mut limit: usize = 65536;
+        let mut among = sets::below(self.size);
+        while let Some(due) = Due::below(limit, among, row) {
+            let moved = self.lower_at(due, row)?;
+            limit = usize::from(due.d);
+            // while nothing moves, only jobs due now can be due next
+            among = due.jobs;
+            if moved != 0 {
+                if !self.sink(moved, row) {
+                    return None;
+                }
+                all |= moved;
+                among = sets::below(self.size);
+            }
+        }
+        Some(all)
+    }
+
+    // The rule at one d, for every job that is due: which moved, None where one has no time left.
+    fn lower_at(&self, due: Due, row: &mut [u16; 64]) -> Option<u64>
+        requires { (j : ℕ) → T (has due.jobs j) → (j < self.now.size) × (get_or row.old j 0 ≤ due.d) }
+        ensures { (J : Jobs) (early : ℕ → ℕ) → Known J early self.now → DueBy J.size (row_in row.old) due.d due.jobs → Moves cores J early row.old row.new (AtD cores J early (row_in row.old) due.d) result }
+    {
+        let mut moved: u64 = 0;
+        for job in sets::Jobs(due.jobs) {
+            let held = row[job.0];
+            let time = self.lowered(job, held, due)?;
+            if time < held {
+                row[job.0] = time;
+                moved = sets::with(moved, job);
+            }
+        }
+        Some(moved)
+    }
 }

@@ -1,35 +1,19 @@
-// Times: of a job, and in a row.
-ghost use Rattle.std.specs.Prelude.{◌≡◌, ℕ, ◌<◌, get_or};
+// The times of a job.
+ghost use Rattle.std.specs.Prelude.{ℕ};
 ghost use Rattle.planner.specs.Requests.{times_checks};
-ghost use Rattle.planner.specs.Inner.Numbers.{Numbers};
+ghost use Rattle.planner.specs.Inner.Passes.{Passes, at_place};
 
-// A time as a machine word.
-pub fn wide(time: u16) -> usize
-    ensures { (result ≡ time) × (result < 65536) }
-{
-    time as usize
-}
+use refusal::Reason;
 
-// An entry of a row.
-pub fn time_at(row: &[u16; 64], i: usize) -> usize
-    requires { i < 64 }
-    ensures { (result ≡ get_or row.now i 0) × (result < 65536) }
+// A job's own fault.
+pub fn fault(start: u16, deadline: u16) -> Result<(), Reason>
+    ensures { (place : ℕ) → Passes (times_checks place start deadline) (at_place place result) }
 {
-    wide(row[i])
-}
-
-// The number of a job's fault, and 0 for none.
-pub fn fault(start: u16, deadline: u16) -> u8
-    ensures { (place : ℕ) → Numbers (times_checks place start deadline) result place }
-{
-    if start > 4095 {
-        return 2;
-    }
-    if deadline > 4096 {
-        return 2;
+    if start > 4095 || deadline > 4096 {
+        return Err(Reason::OutOfRange);
     }
     if deadline <= start {
-        return 3;
+        return Err(Reason::NoSlot);
     }
-    0
+    Ok(())
 }

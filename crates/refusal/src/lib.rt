@@ -1,25 +1,73 @@
-// Answers, the numbers of refusal and their classes.
+// Answers, the reasons of refusal with their numbers, and the classes of the numbers.
 
 #![tactic(auto)]
 
 ghost use Rattle.std.specs.Prelude.{◌≡◌};
-ghost use Rattle.refusal.specs.Says.{number_of, value_of, class_of};
+ghost use Rattle.refusal.specs.Says.{number_of, value_of, class_of, reason_number, refused_by};
 
-#[derive(Clone, Copy)]
-pub enum Answer {
-    // what is answered
-    Accepted(usize),
-    // the number of the refusal, and what is returned with it
-    Refused(u8, usize),
+// Why a call refuses, with its number.
+#[derive(Clone, Copy, Debug, PartialEq, Eq)]
+pub enum Reason {
+    // 64 jobs held already, or more than 64 in a list
+    TooManyJobs = 1,
+    // a start above 4,095, or a deadline above 4,096
+    OutOfRange = 2,
+    // a deadline at most the job's start
+    NoSlot = 3,
+    // no valid plan meets the deadlines
+    NoPlan = 4,
+    // a job that is not held; of an order, the first
+    NotHeld = 5,
+    // an order that closes a loop through other jobs
+    Loop = 6,
+    // rows of a list that do not go together
+    Uneven = 7,
+    // too few bytes lent
+    NoRoom = 8,
+    FileTooLong = 9,
+    UnknownMark = 10,
+    // too few bytes left for a record
+    CutShort = 11,
+    // an order whose second job is not held
+    SecondNotHeld = 12,
+    // an order of a job before itself
+    BeforeItself = 13,
+    NoJobs = 14,
 }
 
-#[derive(Clone, Copy)]
+impl Reason {
+    pub fn number(self) -> u8
+        ensures { result ≡ reason_number self }
+    {
+        self as u8
+    }
+}
+
+// A reason, and what is returned with it.
+#[derive(Clone, Copy, Debug, PartialEq, Eq)]
+pub struct Refusal {
+    pub reason: Reason,
+    pub value: usize,
+}
+
+// Nothing but 0 is returned with it.
+impl From<Reason> for Refusal {
+    ghost from_gives = { λ reason refusal. refusal ≡ refused_by reason 0 };
+
+    fn from(reason: Reason) -> Refusal {
+        Refusal { reason, value: 0 }
+    }
+}
+
+// What is answered, or why not.
+pub type Answer = Result<usize, Refusal>;
+
+#[derive(Clone, Copy, Debug, PartialEq, Eq)]
 pub enum Class {
-    Room,
-    Request,
-    Plan,
-    Form,
-    None,
+    Room = 1,
+    Request = 2,
+    Plan = 3,
+    Form = 4,
 }
 
 // The number of the refusal, and 0 where nothing is refused.
@@ -27,8 +75,8 @@ pub fn number(answer: Answer) -> u8
     ensures { result ≡ number_of answer }
 {
     match answer {
-        Answer::Accepted(_) => 0,
-        Answer::Refused(number, _) => number,
+        Ok(_) => 0,
+        Err(refusal) => refusal.reason.number(),
     }
 }
 
@@ -37,20 +85,20 @@ pub fn value(answer: Answer) -> usize
     ensures { result ≡ value_of answer }
 {
     match answer {
-        Answer::Accepted(value) => value,
-        Answer::Refused(_, value) => value,
+        Ok(value) => value,
+        Err(refusal) => refusal.value,
     }
 }
 
-// The class of a refusal's number.
-pub fn class_of(number: u8) -> Class
+// The class of a refusal's number; any other number has none.
+pub fn class_of(number: u8) -> Option<Class>
     ensures { result ≡ class_of number }
 {
     match number {
-        1 | 8..=9 => Class::Room,
-        2..=3 | 5..=6 | 12..=13 => Class::Request,
-        4 => Class::Plan,
-        7 | 10..=11 | 14 => Class::Form,
-        _ => Class::None,
+        1 | 8..=9 => Some(Class::Room),
+        2..=3 | 5..=6 | 12..=13 => Some(Class::Request),
+        4 => Some(Class::Plan),
+        7 | 10..=11 | 14 => Some(Class::Form),
+        _ => None,
     }
 }

@@ -1,32 +1,26 @@
 -- What a whole file read tells the listing: why it ended, and the numbers in the bytes lent.
 -- Assumes nothing.
-use mathlib.Core.Bool.{Bool, true, false, cond, not, ◌||◌}
 use mathlib.Core.List.{List, [], ◌++◌, append-nil}
 use mathlib.Core.Logic.{inl, inr, ⊎_elim}
-use mathlib.Core.Path.{◌≡◌, refl, ap, ◌∙◌}
+use mathlib.Core.Path.{◌≡◌, ap, ◌∙◌}
 use Prim.Native.Nat.{ℕ, zero, suc, ◌+◌, ◌-◌, ◌≤◌, ◌<◌}
 use native.Mathlib.Omega.{arith}
-use lib.Dec.{T, eqb, eqb→eq}
 use lib.ListN.{length, get_or, drop, replicate, length-append, get_or-append}
 use lib.Seq.{get_or-append-add, get_or-drop}
 use Rattle.schedule.proofs.Tests.{le_or_lt}
 use Rattle.refusal.specs.Table.{Refuses}
-use Rattle.refusal.proofs.Says.{says_more}
 use Rattle.planner.specs.declared.requests.Request.{Request}
 use Rattle.planner.specs.Requests.{Applied, Applies}
 use Rattle.planner.proofs.Outcome.{sound_few, applied_number}
 use Rattle.records.specs.Find.{find_checks}
 use Rattle.book.specs.Told.{Book, Made}
 use Rattle.book.proofs.Empty.{zeros}
-use Rattle.jobfile.specs.declared.reader.Event.{Event}
-use Rattle.jobfile.specs.declared.reader.Event.TheVariants as event
-use Rattle.jobfile.specs.Reader.{AfterRead, Tells, asks}
+use Rattle.jobfile.specs.Reader.{AfterRead, asks}
 use Rattle.jobfile.specs.File.{SingleReads, last, more}
 use Rattle.jobfile.proofs.Reading.{read_answers, read_stays, read_within}
 use Rattle.text.specs.Text.{each}
-use Rattle.text.specs.Put.{Puts}
-use Rattle.report.specs.Line.{refused_line, stopped_line}
-use Rattle.report.specs.Listing.{refused_lines, stop_line}
+use Rattle.report.specs.Line.{refused_line}
+use Rattle.report.specs.Listing.{refused_lines}
 use Rattle.report.proofs.Ends.{each_same}
 
 -- the last read of a file that is not too long
@@ -47,30 +41,6 @@ module _ (file : List ℕ) (fits : length file ≤ 24576) where
   ending k at numbers r m h (more {numbers = others} t x f p) =
       let i = read_within k file at t x f in
       ending t.book t.at others r x.made (omega arith) p
-
--- the line by the event is that by its number and value
-abbrev pub stop_text : Event → List ℕ
-stop_text (event.Request a) = []
-stop_text event.End = []
-stop_text (event.Stopped n v) = stopped_line v n
-
-none : (a b c d : Bool) (l : List ℕ) → T (not (a || (b || c || d))) → cond (c || d) l [] ≡ []
-none true b c d l x = absurd x
-none false true c d l x = absurd x
-none false false true d l x = absurd x
-none false false false true l x = absurd x
-none false false false false l x = refl
-
-some : (b c d : Bool) (l : List ℕ) → (T b → ⊥) → T (b || c || d) → cond (c || d) l [] ≡ l
-some true c d l f x = absurd (f tt)
-some false true d l f x = refl
-some false false true l f x = refl
-some false false false l f x = absurd x
-
-pub stop_put : (r : Event) (at : ℕ) (old new : List ℕ) (next : ℕ) → Tells r (λ n v. n ≡ 9 → ⊥) → Puts (stop_text r) at old new next → Tells r (λ n v. Puts (stop_line n v) at old new next)
-stop_put (event.Request a) at old new next x p = says_more _ _ a (λ n v y. (y.0, rw (none (eqb n 255) (eqb n 9) (eqb n 10) (eqb n 11) (stopped_line v n) y.0) p)) x
-stop_put event.End at old new next x p = p
-stop_put (event.Stopped n v) at old new next x p = (x.0, rw (some (eqb n 9) (eqb n 10) (eqb n 11) (stopped_line v n) (λ t. x.1 (eqb→eq n 9 t)) x.0) p)
 
 -- ---- the numbers
 -- no number of a request has more than three digits

@@ -6,16 +6,18 @@ use mathlib.Core.Path.{◌≡◌, refl, sym, ap, ap₂, ◌∙◌}
 use Prim.Native.Nat.{ℕ, zero, suc, ◌+◌, ◌-◌, ◌*◌, ◌/◌, ◌%◌, ◌≤◌, ◌<◌}
 use native.Mathlib.Numerals.{add-one}
 use native.Mathlib.Omega.{arith}
-use lib.ListN.{length, get_or, take, drop, set, replicate, length-set, length-append, get_or-append}
+use lib.ListN.{length, get_or, take, drop, set, replicate, length-set, get_or-append}
 use lib.Seq.{get_or-set_same, get_or-set_other, take_at}
 use Rattle.schedule.specs.Make.{byte as byte_of}
 use Rattle.schedule.proofs.Tests.{le_or_lt}
 use Rattle.schedule.proofs.Loop.{bytes_length, bytes_at}
-use Rattle.refusal.specs.declared.Answer.{Answer}
+use Rattle.std.specs.Prelude.{Result, Ok, Err}
+use Rattle.std.specs.Result.{result_unwrap_or}
+use Rattle.refusal.specs.declared.Refusal.{Refusal}
 use Rattle.refusal.specs.Table.{passed as granted}
-use Rattle.refusal.specs.Says.{Says, value_of}
+use Rattle.refusal.specs.Says.{Says}
 use Rattle.refusal.proofs.Table.{table_free}
-use Rattle.refusal.proofs.Says.{says_told}
+use Rattle.refusal.proofs.Says.{number_within}
 use Rattle.book.specs.Told.{cores, Book, part, book_in, jobs_of, latest_of, Made}
 use Rattle.plan.specs.Plan.{horizon, unplaced, plan_of, finish_of, bytes_of, Plans}
 use Rattle.plan.specs.Place.{core_of}
@@ -129,21 +131,16 @@ module _ (times before : List ℕ) (m : Made (book_in times before)) where
 
 -- ---- the plan as the call hands it out: in the front of more bytes than it takes
 pub record Handed (k : Book) (finish : ℕ) (bytes : List ℕ) : Type 0 where
-  pub ends : finish ≡ finish_of k
   pub small : finish ≤ horizon
-  pub fits : cores * finish ≤ length bytes
   pub front : take (cores * finish) bytes ≡ bytes_of k
-  pub all : length (take (cores * finish) bytes) ≡ cores * finish
 
-pub handed : (k : Book) → Made k → (old bytes : List ℕ) (r : Answer) → length old ≡ cores * horizon → Says r (Plans k old bytes) → Handed k (value_of r) bytes
-handed k m old bytes r room x =
-    let e = table_free _ _ _ _ (λ short. omega (arith, finish_fits k m)) (says_told (Plans k old bytes) r x) in
-    let ends = ap (λ z. z.1) e in
-    let front = ap₂ (λ n l. take (cores * n) l) ends (ap (λ z. z.2) e) ∙ take_at (bytes_of k) (drop (cores * finish_of k) old) (cores * finish_of k) (long k m) in
+pub handed : (k : Book) → Made k → (old bytes : List ℕ) (r : Result ℕ Refusal) → length old ≡ cores * horizon → Says r (Plans k old bytes) → Handed k (result_unwrap_or r 0) bytes
+handed k m old bytes (Ok v) room x =
+    let e = table_free _ _ _ _ (λ short. omega (arith, finish_fits k m)) x in
     record {
-      ends = ends;
-      small = omega (arith, ends, finish_fits k m);
-      fits = omega (arith, ends, long k m, ap length (ap (λ z. z.2) e), length-append (bytes_of k) (drop (cores * finish_of k) old));
-      front = front;
-      all = omega (arith, ap length front, long k m, ends);
+      small = omega (arith, ap (λ z. z.1) e, finish_fits k m);
+      front = ap₂ (λ n l. take (cores * n) l) (ap (λ z. z.1) e) (ap (λ z. z.2) e) ∙ take_at (bytes_of k) (drop (cores * finish_of k) old) (cores * finish_of k) (long k m);
     }
+handed k m old bytes (Err refusal) room x =
+    let e = table_free _ _ _ _ (λ short. omega (arith, finish_fits k m)) x in
+    absurd (omega (arith, (number_within refusal.reason).0, ap (λ z. z.0) e))

@@ -21,7 +21,7 @@ use Rattle.report.proofs.Ended.{Ending}
 abbrev Short : ℕ → List ℕ → Type 0
 Short k text = length text ≤ k
 
-either : (k : ℕ) (b : Bool) (x y : List ℕ) → Short k x → Short k y → Short k (cond b x y)
+pub either : (k : ℕ) (b : Bool) (x y : List ℕ) → Short k x → Short k y → Short k (cond b x y)
 either k true x y h i = h
 either k false x y h i = i
 

@@ -1,73 +1,64 @@
-// The lines of the listing, each put into lent bytes from a place on; each answers the place behind it.
-ghost use Rattle.text.specs.Put.{Puts};
+// The lines of the listing, each put on a page.
+ghost use Rattle.text.specs.Put.{Adds};
 ghost use Rattle.report.specs.Line.{refused_line, stopped_line, too_long_line, jobs_line, slot_line, job_line};
 
 use schedule::{JobIndex, SlotTime};
+use text::Page;
 
-pub fn refused(out: &mut [u8], at: usize, place: usize, number: u8) -> usize
-    ensures { Puts (refused_line place number) at out.old out.new result }
+pub fn refused(page: &mut Page, place: usize, number: u8)
+    ensures { Adds (refused_line place number) page.old page.new }
 {
     if number == 0 {
-        return at;
+        return;
     }
-    let values = [place, number as usize];
-    text::fill(out, at, b"record \x00 refused \x01\n", &values)
+    let values = [place, usize::from(number)];
+    page.fill(b"record \x00 refused \x01\n", &values);
 }
 
-pub fn stopped(out: &mut [u8], at: usize, offset: usize, number: usize) -> usize
-    ensures { Puts (stopped_line offset number) at out.old out.new result }
+pub fn stopped(page: &mut Page, offset: usize, number: usize)
+    ensures { Adds (stopped_line offset number) page.old page.new }
 {
-    let values = [offset, number];
-    text::fill(out, at, b"stopped at \x00 refused \x01\n", &values)
+    page.fill(b"stopped at \x00 refused \x01\n", &[offset, number]);
 }
 
-pub fn too_long(out: &mut [u8], at: usize) -> usize
-    ensures { Puts too_long_line at out.old out.new result }
+pub fn too_long(page: &mut Page)
+    ensures { Adds too_long_line page.old page.new }
 {
-    let values = [0usize; 0];
-    text::fill(out, at, b"file refused 9\n", &values)
+    page.fill(b"file refused 9\n", &[]);
 }
 
-pub fn jobs(out: &mut [u8], at: usize, jobs: usize, finish: SlotTime) -> usize
-    ensures { Puts (jobs_line jobs finish.0) at out.old out.new result }
+pub fn jobs(page: &mut Page, jobs: usize, finish: SlotTime)
+    ensures { Adds (jobs_line jobs finish.0) page.old page.new }
 {
-    let values = [jobs, finish.0];
-    text::fill(out, at, b"jobs \x00 slots \x01\n", &values)
+    page.fill(b"jobs \x00 slots \x01\n", &[jobs, finish.0]);
 }
 
 pub fn job(
-    out: &mut [u8],
-    at: usize,
+    page: &mut Page,
     job: JobIndex,
     start: SlotTime,
     latest: SlotTime,
     end: SlotTime,
     spare: usize,
-) -> usize
-    ensures { Puts (job_line job.0 start.0 latest.0 end.0 spare) at out.old out.new result }
+)
+    ensures { Adds (job_line job.0 start.0 latest.0 end.0 spare) page.old page.new }
 {
     let values = [job.0, start.0, latest.0, end.0, spare];
-    text::fill(
-        out,
-        at,
+    page.fill(
         b"job \x00 start \x01 latest \x02 end \x03 spare \x04\n",
         &values,
-    )
+    );
 }
 
 // The two bytes of a slot in the plan.
-pub fn slot(out: &mut [u8], at: usize, slot: SlotTime, core0: u8, core1: u8) -> usize
-    ensures { Puts (slot_line slot.0 core0 core1) at out.old out.new result }
+pub fn slot(page: &mut Page, slot: SlotTime, core0: u8, core1: u8)
+    ensures { Adds (slot_line slot.0 core0 core1) page.old page.new }
 {
-    let values = [slot.0, core0 as usize, core1 as usize];
-    if core0 == 255 {
-        if core1 == 255 {
-            return at;
-        }
-        return text::fill(out, at, b"slot \x00 - \x02\n", &values);
+    let values = [slot.0, usize::from(core0), usize::from(core1)];
+    match (core0, core1) {
+        (255, 255) => {}
+        (255, _) => page.fill(b"slot \x00 - \x02\n", &values),
+        (_, 255) => page.fill(b"slot \x00 \x01 -\n", &values),
+        _ => page.fill(b"slot \x00 \x01 \x02\n", &values),
     }
-    if core1 == 255 {
-        return text::fill(out, at, b"slot \x00 \x01 -\n", &values);
-    }
-    text::fill(out, at, b"slot \x00 \x01 \x02\n", &values)
 }

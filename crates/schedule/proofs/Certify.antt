@@ -17,7 +17,7 @@ use Rattle.schedule.specs.Book.{Holds}
 use Rattle.schedule.specs.Theory.Bound.{Bound}
 use Rattle.schedule.proofs.Tests.{Says, says_and, says_le, says_lt, says_not, says_then, itself, says_eq, says_or}
 use Rattle.schedule.proofs.Early.{raise, raise_least}
-use Rattle.schedule.proofs.Exist.{latest, bound_start, bound_lower, bound_latest, bound_shut}
+use Rattle.schedule.proofs.Exist.{bound_start, bound_lower, bound_latest, bound_shut}
 use Rattle.schedule.proofs.Few.{Few, own, other, consistent_few}
 use Rattle.schedule.proofs.Choice.{says_all}
 use Rattle.schedule.proofs.Renumber.{latest_agrees}

@@ -5,6 +5,7 @@
 ghost use Rattle.std.specs.Prelude.{◌≡◌};
 ghost use Rattle.schedule.specs.Count.{count};
 ghost use Rattle.sets.specs.Sets.{has, With, Without, Below, First, Rest};
+ghost use Rattle.std.specs.Iterator.{at_most};
 
 use schedule::JobIndex;
 
@@ -15,10 +16,7 @@ const JOBS: usize = 64;
 pub fn has(set: u64, job: JobIndex) -> bool
     ensures { result ≡ has set job.0 }
 {
-    if job.0 >= JOBS {
-        return false;
-    }
-    (set >> job.0) % 2 == 1
+    job.0 < JOBS && (set >> job.0) % 2 == 1
 }
 
 // The set with one job more.
@@ -45,7 +43,7 @@ pub fn without(set: u64, job: JobIndex) -> u64
 pub fn size(set: u64) -> usize
     ensures { result ≡ count 64 (has set) }
 {
-    u64::count_ones(set) as usize
+    set.count_ones() as usize
 }
 
 // The jobs below n.
@@ -58,16 +56,39 @@ pub fn below(n: usize) -> u64
     (1u64 << n) - 1
 }
 
-// The first job of the set, 64 for none.
+// The first job of the set, 64 for none: `First` (specs/Sets) says so, and `Jobs` asks only where there is one.
 pub fn first(set: u64) -> JobIndex
     ensures { First set result.0 }
 {
-    JobIndex(u64::trailing_zeros(set) as usize)
+    JobIndex(set.trailing_zeros() as usize)
 }
 
 // The set without its first job.
 pub fn rest(set: u64) -> u64
     ensures { Rest set result }
 {
-    set & std::num::wrapping_sub_u64(set, 1)
+    set & set.wrapping_sub(1)
+}
+
+// The jobs of a set, by number.
+#[derive(Clone, Copy)]
+pub struct Jobs(pub u64);
+
+impl Iterator for Jobs {
+    ghost use Rattle.sets.specs.Walk.{Walks};
+
+    type Item = JobIndex;
+
+    ghost next_gives = { λ from job to. Walks from.0 job to.0 };
+
+    ghost remaining = { λ jobs. at_most (count 64 (has jobs.0)) };
+
+    fn next(&mut self) -> Option<JobIndex> {
+        if self.0 == 0 {
+            return None;
+        }
+        let job = first(self.0);
+        self.0 = rest(self.0);
+        Some(job)
+    }
 }

@@ -10,8 +10,9 @@ use lib.ListN.{length, get_or, take, length-append}
 use lib.Seq.{take-suc}
 use Rattle.text.specs.Text.{each}
 use Rattle.text.specs.Fill.{piece, filled}
-use Rattle.text.specs.Put.{Puts}
-use Rattle.text.proofs.Putting.{puts_none, puts_then}
+use Rattle.text.specs.Put.{Adds}
+use Rattle.text.specs.declared.Page.{Page}
+use Rattle.text.proofs.Putting.{adds_none, adds_then}
 
 -- ---- patterns
 filled_append : (values p q : List ℕ) → filled values (p ++ q) ≡ filled values p ++ filled values q
@@ -25,14 +26,14 @@ filled_next values pattern i h =
 
 -- ---- by their number
 -- none yet, and one more: a loop that puts the text of 0, 1, 2..
-module _ (text : ℕ → List ℕ) {at : ℕ} {old : List ℕ} where
-  pub each_none : Puts (each 0 text) at old old at
+module _ (text : ℕ → List ℕ) where
+  pub each_none : (page : Page) → Adds (each 0 text) page page
   unfolding each
-  each_none = puts_none old at
+  each_none page = adds_none page
 
-  pub each_next : {i next next' : ℕ} {new new' : List ℕ} → Puts (each i text) at old new next → Puts (text i) next new new' next' → Puts (each (i + 1) text) at old new' next'
+  pub each_next : {i : ℕ} {a b c : Page} → Adds (each i text) a b → Adds (text i) b c → Adds (each (i + 1) text) a c
   unfolding each
-  each_next p q = rw add-one (puts_then p q)
+  each_next p q = rw add-one (adds_then p q)
 
 -- no longer than its parts
 pub each_short : (k n : ℕ) (text : ℕ → List ℕ) → ((i : ℕ) → i < n → length (text i) ≤ k) → length (each n text) ≤ n * k

@@ -2,14 +2,15 @@
 -- Assumes nothing.
 use mathlib.Core.List.{List, [], ◌∷◌, ◌++◌, append-nil}
 use mathlib.Core.Logic.{◌⊎◌, inl, inr, ⊎_elim}
-use mathlib.Core.Path.{◌≡◌, sym, ap, ap₂, ◌∙◌}
+use mathlib.Core.Path.{◌≡◌, refl, sym, ap, ap₂, ◌∙◌}
 use Prim.Native.Nat.{ℕ, suc, ◌+◌, ◌-◌, ◌≤◌, ◌<◌}
 use native.Mathlib.Decide.{dec_le}
-use native.Mathlib.Nat.{add-zero}
+use native.Mathlib.Nat.{add-zero, zero-add}
 use native.Mathlib.Omega.{arith}
 use lib.ListN.{length, take, drop, set, length-append}
 use lib.Seq.{sets, sets-eq, length-sets, take_all, take-append-le, take-append-add, take-nil, length-take-le}
-use Rattle.text.specs.Put.{fitting, Puts}
+use Rattle.text.specs.Put.{fitting, Puts, Adds}
+use Rattle.text.specs.declared.Page.{Page}
 
 pub le_or_lt : (a b : ℕ) → (a ≤ b) ⊎ (b < a)
 le_or_lt a b = go (dec_le a b)
@@ -28,9 +29,6 @@ sets_append (x ∷ xs) ys l i =
 -- one outcome
 pub puts_only : {text old new new' : List ℕ} {at next next' : ℕ} → Puts text at old new next → Puts text at old new' next' → (new ≡ new') × (next ≡ next')
 puts_only p q = (p.bytes ∙ sym q.bytes, p.behind ∙ sym q.behind)
-
-pub puts_as : {s t a b : List ℕ} {at m n : ℕ} → s ≡ t → m ≡ n → Puts s at a b m → Puts t at a b n
-puts_as e f p = rw (← e, ← f) p
 
 pub puts_length : {text old new : List ℕ} {at next : ℕ} → Puts text at old new next → length new ≡ length old
 puts_length {text} {old} {new} {at} p = ap length p.bytes ∙ length-sets old at (fitting text at old)
@@ -51,12 +49,11 @@ module _ (text : List ℕ) (at : ℕ) (out : List ℕ) (room : at + length text 
   pub puts_whole : {new : List ℕ} {next : ℕ} → Puts text at out new next → (new ≡ take at out ++ text ++ drop (at + length text) out) × (next ≡ at + length text)
   puts_whole p = ((puts_stored p).0 ∙ sets-eq text out at room, (puts_stored p).1)
 
-  pub whole_puts : Puts text at out (sets out at text) (at + length text)
-  whole_puts = record { bytes = ap (sets out at) (sym fits); behind = ap (λ l. at + length l) (sym fits) }
-
--- where there is none, nothing changes
-pub full_puts : (text : List ℕ) (at : ℕ) (out : List ℕ) → length out ≤ at → Puts text at out out at
-full_puts text at out h = let e : length out - at ≡ 0 = omega arith in record { bytes = rw e; behind = rw e (omega arith) }
+-- at the front
+pub puts_front : {text old new : List ℕ} {next : ℕ} → length text ≤ length old → Puts text 0 old new next → (new ≡ text ++ drop (length text) old) × (next ≡ length text) × (next ≤ length new)
+puts_front {text} {old} room p =
+    let w = puts_whole text 0 old (omega arith) p in
+    (rw (← zero-add (length text)) w.0, omega (arith, w.1), omega (arith, w.1, puts_length p))
 
 -- ---- one behind the other
 pub puts_then : {s t a b c : List ℕ} {at m n : ℕ} → Puts s at a b m → Puts t m b c n → Puts (s ++ t) at a c n
@@ -82,3 +79,14 @@ puts_then {s} {t} {a} {b} {c} {at} {m} {n} p q = ⊎_elim whole part (le_or_lt (
     part h =
         let left : length b - m ≡ 0 = omega (arith, same, p.behind, length-take-le (length a - at) s (omega arith)) in
         by [] (append-nil (fitting s at a) ∙ sym (take-append-le (length a - at) s t (omega arith))) (ap (λ i. take i t) left)
+
+-- ---- pages
+-- one outcome: the bytes and the place
+pub adds_only : {text : List ℕ} {from to to' : Page} → Adds text from to → Adds text from to' → (to.out.now ≡ to'.out.now) × (to.at ≡ to'.at)
+adds_only p q = puts_only p.puts q.puts
+
+pub adds_none : (page : Page) → Adds [] page page
+adds_none page = record { puts = puts_none page.out.now page.at; lent = refl }
+
+pub adds_then : {s t : List ℕ} {a b c : Page} → Adds s a b → Adds t b c → Adds (s ++ t) a c
+adds_then p q = record { puts = puts_then p.puts q.puts; lent = q.lent ∙ p.lent }

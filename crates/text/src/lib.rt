@@ -1,50 +1,54 @@
-// Text put into lent bytes from a place on. What finds no room is not written; the answer is the place behind the last byte written.
+// Text put into lent bytes from a place on. What finds no room is not written; the place is then behind the last byte written.
 
 #![tactic(auto)]
 
 ghost use Rattle.std.specs.Prelude.{[], ◌∷◌};
 ghost use Rattle.text.specs.Text.{decimal};
 ghost use Rattle.text.specs.Fill.{piece as piece_text, filled};
-ghost use Rattle.text.specs.Put.{Puts};
+ghost use Rattle.text.specs.Put.{Adds};
 
-// A pattern, with a value in decimal for each byte that is the value's place.
-pub fn fill(out: &mut [u8], at: usize, pattern: &[u8], values: &[usize]) -> usize
-    ensures { Puts (filled values.now pattern.now) at out.old out.new result }
-{
-    let mut next = at;
-    for i in 0..pattern.len() {
-        next = piece(out, next, pattern[i], values);
-    }
-    next
+// Lent bytes, and the place that the next text is put at.
+#[derive(Drop)]
+pub struct Page<'a> {
+    pub out: &'a mut [u8],
+    pub at: usize,
 }
 
-fn piece(out: &mut [u8], at: usize, byte: u8, values: &[usize]) -> usize
-    ensures { Puts (piece_text values.now byte) at out.old out.new result }
-{
-    let place = byte as usize;
-    if place < values.len() {
-        return number(out, at, values[place]);
+impl Page<'_> {
+    // A pattern, with a value in decimal for each byte that is the value's place.
+    pub fn fill(&mut self, pattern: &[u8], values: &[usize])
+        ensures { Adds (filled values.now pattern.now) self.old self.new }
+    {
+        for &byte in pattern {
+            self.piece(byte, values);
+        }
     }
-    put(out, at, byte)
-}
 
-// A number in decimal. The digits in front of the last come first: at most 20 calls deep.
-pub fn number(out: &mut [u8], at: usize, n: usize) -> usize
-    ensures { Puts (decimal n) at out.old out.new result }
-{
-    let mut last = at;
-    if n > 9 {
-        last = number(out, at, n / 10);
+    fn piece(&mut self, byte: u8, values: &[usize])
+        ensures { Adds (piece_text values.now byte) self.old self.new }
+    {
+        match values.get(usize::from(byte)) {
+            Some(&value) => self.number(value),
+            None => self.put(byte),
+        }
     }
-    put(out, last, 48 + (n % 10) as u8)
-}
 
-pub fn put(out: &mut [u8], at: usize, byte: u8) -> usize
-    ensures { Puts (byte ∷ []) at out.old out.new result }
-{
-    if at < out.len() {
-        out[at] = byte;
-        return at + 1;
+    // A number in decimal. The digits in front of the last come first: at most 20 calls deep.
+    pub fn number(&mut self, n: usize)
+        ensures { Adds (decimal n) self.old self.new }
+    {
+        if n > 9 {
+            self.number(n / 10);
+        }
+        self.put(48 + (n % 10) as u8);
     }
-    at
+
+    pub fn put(&mut self, byte: u8)
+        ensures { Adds (byte ∷ []) self.old self.new }
+    {
+        if self.at < self.out.len() {
+            self.out[self.at] = byte;
+            self.at += 1;
+        }
+    }
 }

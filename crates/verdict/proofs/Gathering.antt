@@ -1,46 +1,53 @@
 -- A walk that gathers rows: where it stands, and what it tells.
 -- Assumes nothing.
 use mathlib.Core.List.{List, [], ◌∷◌, ◌++◌}
-use mathlib.Core.Path.{◌≡◌, refl}
+use mathlib.Core.Path.{◌≡◌, refl, sym, ap, ◌∙◌}
 use Prim.Native.Nat.{ℕ, ◌+◌}
 use native.Mathlib.Omega.{arith}
 use lib.ListN.{length}
+use Rattle.std.specs.Prelude.{Some, None, Ok, Err}
 use Rattle.records.specs.declared.Record.{Record}
-use Rattle.records.specs.declared.Found.TheVariants as found
+use Rattle.refusal.specs.declared.Refusal.{Refusal}
 use Rattle.records.specs.Record.{length_of}
 use Rattle.records.specs.Find.{Finds}
-use Rattle.verdict.specs.Gathered.{given}
-use Rattle.verdict.specs.Inner.Gather.{Front, Room, Enters, Fronts, Gathers}
-use Rattle.verdict.specs.declared.gather.Sizes.{Sizes}
-use Rattle.verdict.specs.declared.gather.Gathered.TheVariants.{Whole, Stopped}
-use Rattle.verdict.proofs.Walk.{Behind, behind_none, behind_more, found_within, ends_whole, ends_stopped}
-use Rattle.verdict.proofs.Rows.{fronts_room, fronts_more}
+use Rattle.verdict.specs.Gathered.{start_of, deadline_of, pair_of}
+use Rattle.verdict.specs.Inner.Gather.{Holds, Room, Enters, Gathers}
+use Rattle.verdict.specs.declared.gather.Rows.{Rows}
+use Rattle.verdict.proofs.Walk.{Behind, behind_more, found_within, ends_whole, ends_stopped}
+use Rattle.verdict.proofs.Rows.{given_last, given_few, given_alike, start_few, pair_few}
 
-pub record Gathering (file s d p : List ℕ) (at : ℕ) (sizes : Sizes) : Type 0 where
+pub record Gathering (file : List ℕ) (at : ℕ) (rows : Rows) : Type 0 where
   pub done : List Record
   pub behind : Behind file at done
-  pub fronts : Fronts done sizes s d p
+  pub holds : Holds done rows
 
-pub gathering_none : (file s d p : List ℕ) → Gathering file s d p 0 (record { jobs = 0; paired = 0 })
-unfolding given
-gathering_none file s d p =
-    let none : (row : List ℕ) → Front 0 [] row = λ row. record { count = refl; fits = omega arith; front = refl } in
-    record { done = []; behind = behind_none file; fronts = record { starts = none s; deadlines = none d; pairs = none p } }
-
-module _ (file s d p : List ℕ) (at : ℕ) (sizes : Sizes) (w : Gathering file s d p at sizes) where
+module _ (file : List ℕ) (at : ℕ) (rows : Rows) (w : Gathering file at rows) where
   -- room for a record more
-  pub gathering_room : (r : Record) → Finds file at (found.Record r) → length s ≡ 4096 → length d ≡ 4096 → length p ≡ 8192 → Room sizes s d p
-  gathering_room r f = let x = found_within file at (length_of r) r f refl in fronts_room w.done at sizes s d p w.behind.few (omega arith) w.fronts
+  pub gathering_room : (r : Record) → Finds file at (Ok (Some r)) → Room rows
+  gathering_room r f =
+      let x = found_within file at (length_of r) r f refl in
+      let h = w.holds in
+      let starts = given_few start_of 1 w.done start_few in
+      let pairs = given_few pair_of 2 w.done pair_few in
+      record {
+        starts = omega (arith, w.behind.few, ap length h.starts);
+        deadlines = omega (arith, w.behind.few, ap length h.deadlines, given_alike w.done);
+        pairs = omega (arith, w.behind.few, ap length h.pairs);
+      }
 
-  pub gathering_more : (r : Record) (size : ℕ) (to : Sizes) (s' d' p' : List ℕ) → Finds file at (found.Record r) → size ≡ length_of r → Room sizes s d p → Enters r sizes s d p to s' d' p' → Gathering file s' d' p' (at + size) to
-  gathering_more r size to s' d' p' f e room x = record {
+  pub gathering_more : (r : Record) (size : ℕ) (to : Rows) → Finds file at (Ok (Some r)) → size ≡ length_of r → Enters r rows to → Gathering file (at + size) to
+  gathering_more r size to f e x = record {
     done = w.done ++ (r ∷ []);
     behind = behind_more file at size w.done r w.behind f e;
-    fronts = fronts_more w.done r sizes to s d p s' d' p' room w.fronts x;
+    holds = record {
+      starts = x.starts ∙ ap (λ l. l ++ start_of r) w.holds.starts ∙ sym (given_last start_of w.done r);
+      deadlines = x.deadlines ∙ ap (λ l. l ++ deadline_of r) w.holds.deadlines ∙ sym (given_last deadline_of w.done r);
+      pairs = x.pairs ∙ ap (λ l. l ++ pair_of r) w.holds.pairs ∙ sym (given_last pair_of w.done r);
+    };
   }
 
-  pub gathers_whole : Finds file at found.End → Gathers file s d p (Whole sizes)
-  gathers_whole f = record { records = w.done; ends = (ends_whole file at w.done w.behind f, w.fronts) }
+  pub gathers_whole : Finds file at (Ok None) → Gathers file rows (Ok tt)
+  gathers_whole f = record { records = w.done; ends = (ends_whole file at w.done w.behind f, w.holds) }
 
-  pub gathers_stopped : (n v : ℕ) → Finds file at (found.Stopped n v) → Gathers file s d p (Stopped n v)
-  gathers_stopped n v f = record { records = w.done; ends = ends_stopped file at w.done w.behind n v f }
+  pub gathers_stopped : (refusal : Refusal) → Finds file at (Err refusal) → Gathers file rows (Err refusal)
+  gathers_stopped refusal f = record { records = w.done; ends = ends_stopped file at w.done w.behind refusal f }

@@ -2,14 +2,12 @@
 
 -- the records of a file, and where a walk over them stands
 pub mod Walk
--- rows gathered, and deadlines drawn in
+-- what records give, and deadlines drawn in
 pub mod Rows
 -- the walk that gathers, and the one that draws in
 pub mod Gathering
 pub mod Drawing
--- a signed number without its sign
-pub mod Signed
--- the lines, how long they are, and a text in front
+-- the lines, how long they are, and a text on an empty page
 pub mod Texts
 -- from the rows to the lines of a list, of records, of a file
 pub mod Assembled

@@ -1,38 +1,36 @@
--- Rows gathered record by record, and deadlines drawn in.
+-- What records give, deadlines drawn in, and records that are stray.
 -- Assumes nothing.
 use mathlib.Core.List.{List, [], ◌∷◌, ◌++◌, append_assoc, append-nil}
 use mathlib.Core.Logic.{⊎_elim}
 use mathlib.Core.Path.{◌≡◌, refl, sym, ap, subst, ◌∙◌}
-use Prim.Native.Nat.{ℕ, min, ◌+◌, ◌*◌, ◌≤◌, ◌<◌}
+use Prim.Native.Nat.{ℕ, min, ◌*◌, ◌≤◌, ◌<◌}
 use native.Mathlib.Nat.{mul-suc}
 use native.Mathlib.Omega.{arith}
-use lib.ListN.{length, get_or, take, drop, set, length-append, length-set, get_or-append}
-use lib.Seq.{sets, sets-eq, length-sets, take_at, length-take-le, get_or-append_seam, set-get_or}
+use lib.ListN.{length, get_or, length-append, length-set, get_or-append}
+use lib.Seq.{get_or-append_seam}
 use Rattle.text.proofs.Putting.{le_or_lt}
 use Rattle.refusal.specs.Table.{Clear, Refuses}
 use Rattle.records.specs.declared.Record.{Record}
 use Rattle.records.specs.declared.Record.TheVariants.{Job, Order, Deadline}
 use Rattle.verdict.specs.Gathered.{given, start_of, deadline_of, pair_of, drawn_by, drawn, Stray, stray_checks}
-use Rattle.verdict.specs.Inner.Gather.{Front, Room, Enters, Fronts}
-use Rattle.verdict.specs.declared.gather.Sizes.{Sizes}
 
 -- ---- what records give
-given_last : (part : Record → List ℕ) (done : List Record) (r : Record) → given part (done ++ (r ∷ [])) ≡ given part done ++ part r
+pub given_last : (part : Record → List ℕ) (done : List Record) (r : Record) → given part (done ++ (r ∷ [])) ≡ given part done ++ part r
 unfolding given
 given_last part [] r = append-nil (part r)
 given_last part (q ∷ done) r = ap (λ l. part q ++ l) (given_last part done r) ∙ sym (append_assoc (part q) (given part done) (part r))
 
-given_few : (part : Record → List ℕ) (k : ℕ) (done : List Record) → ((r : Record) → length (part r) ≤ k) → length (given part done) ≤ k * length done
+pub given_few : (part : Record → List ℕ) (k : ℕ) (done : List Record) → ((r : Record) → length (part r) ≤ k) → length (given part done) ≤ k * length done
 unfolding given
 given_few part k [] h = omega arith
 given_few part k (r ∷ done) h = omega (arith, length-append (part r) (given part done), h r, given_few part k done h, mul-suc k (length done))
 
-start_few : (r : Record) → length (start_of r) ≤ 1
+pub start_few : (r : Record) → length (start_of r) ≤ 1
 start_few (Job s d) = omega arith
 start_few (Order a b) = omega arith
 start_few (Deadline j d) = omega arith
 
-pair_few : (r : Record) → length (pair_of r) ≤ 2
+pub pair_few : (r : Record) → length (pair_of r) ≤ 2
 pair_few (Job s d) = omega arith
 pair_few (Order a b) = omega arith
 pair_few (Deadline j d) = omega arith
@@ -46,30 +44,6 @@ pub given_alike : (done : List Record) → length (given deadline_of done) ≡ l
 unfolding given
 given_alike [] = refl
 given_alike (r ∷ done) = omega (arith, length-append (deadline_of r) (given deadline_of done), length-append (start_of r) (given start_of done), alike r, given_alike done)
-
--- ---- rows
-front_more : (size to : ℕ) (list row row' more : List ℕ) → Front size list row → size + length more ≤ length row → to ≡ size + length more → row' ≡ sets row size more → Front to (list ++ more) row'
-front_more size to list row row' more f room e g =
-    let long : length (take size row ++ more) ≡ size + length more = simp length-append (omega (arith, length-take-le size row f.fits)) in
-    rw (e, g) record {
-      count = omega (arith, f.count, length-append list more);
-      fits = omega (arith, length-sets row size more);
-      front = ap (take (size + length more)) (sets-eq more row size room) ∙ take_at (take size row ++ more) (drop (size + length more) row) (size + length more) long ∙ ap (λ l. l ++ more) f.front;
-    }
-
--- room for a record more where so few bytes are passed
-pub fronts_room : (done : List Record) (at : ℕ) (sizes : Sizes) (s d p : List ℕ) → 6 * length done ≤ at → at + 6 ≤ 24576 → Fronts done sizes s d p → length s ≡ 4096 → length d ≡ 4096 → length p ≡ 8192 → Room sizes s d p
-fronts_room done at sizes s d p few room f ls ld lp =
-    let jobs = given_few start_of 1 done start_few in
-    let paired = given_few pair_of 2 done pair_few in
-    record { starts = omega (arith, f.starts.count); deadlines = omega (arith, f.starts.count); pairs = omega (arith, f.pairs.count) }
-
-pub fronts_more : (done : List Record) (r : Record) (from to : Sizes) (s d p s' d' p' : List ℕ) → Room from s d p → Fronts done from s d p → Enters r from s d p to s' d' p' → Fronts (done ++ (r ∷ [])) to s' d' p'
-fronts_more done r from to s d p s' d' p' room f e = record {
-  starts = rw (given_last start_of done r) (front_more _ _ _ s s' (start_of r) f.starts (omega (arith, room.starts, start_few r)) e.jobs e.starts);
-  deadlines = rw (given_last deadline_of done r) (front_more _ _ _ d d' (deadline_of r) f.deadlines (omega (arith, room.deadlines, start_few r, alike r)) (e.jobs ∙ ap (λ n. from.jobs + n) (sym (alike r))) e.deadlines);
-  pairs = rw (given_last pair_of done r) (front_more _ _ _ p p' (pair_of r) f.pairs (omega (arith, room.pairs, pair_few r)) e.paired e.pairs);
-}
 
 -- ---- deadlines drawn in
 pub drawn_last : (done : List Record) (r : Record) (row : List ℕ) → drawn (done ++ (r ∷ [])) row ≡ drawn_by r (drawn done row)
@@ -86,20 +60,6 @@ pub drawn_length : (done : List Record) (row : List ℕ) → length (drawn done 
 unfolding drawn
 drawn_length [] row = refl
 drawn_length (q ∷ done) row = drawn_length done (drawn_by q row) ∙ drawn_by_length q row
-
--- a record that draws nothing in
-pub drew_none : (r : Record) (row : List ℕ) → ((j d : ℕ) → r ≡ Deadline j d → ⊥) → (Stray (length row) r → ⊥) × (row ≡ drawn_by r row)
-drew_none (Job s d) row none = ((λ x. x), refl)
-drew_none (Order a b) row none = ((λ x. x), refl)
-drew_none (Deadline j d) row none = absurd (none j d refl)
-
--- the earlier of two deadlines holds
-module _ (row : List ℕ) (job deadline : ℕ) (held : job < length row) where
-  pub drew_earlier : deadline < get_or row job 0 → (length row ≤ job → ⊥) × (set row job deadline ≡ set row job (min (get_or row job 0) deadline))
-  drew_earlier h = ((λ far. omega arith), let e : deadline ≡ min (get_or row job 0) deadline = omega arith in ap (set row job) e)
-
-  pub drew_later : get_or row job 0 ≤ deadline → (length row ≤ job → ⊥) × (row ≡ set row job (min (get_or row job 0) deadline))
-  drew_later h = ((λ far. omega arith), let e : get_or row job 0 ≡ min (get_or row job 0) deadline = omega arith in sym (set-get_or row job 0) ∙ ap (set row job) e)
 
 -- ---- records that are stray
 module _ (size : ℕ) (done : List Record) (r : Record) (more : List Record) where

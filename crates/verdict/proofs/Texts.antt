@@ -1,48 +1,37 @@
--- The lines as patterns give them, how long they are, and a text put in front.
+-- How long the lines of a verdict can be, and a text put on an empty page.
 -- Assumes nothing.
-use mathlib.Core.Bool.{Bool, true, false, cond}
-use mathlib.Core.List.{List, [], ◌∷◌, ◌++◌}
-use mathlib.Core.Path.{◌≡◌, subst}
+use mathlib.Core.Bool.{true}
+use mathlib.Core.List.{List, ◌++◌}
+use mathlib.Core.Path.{◌≡◌}
 use Prim.Native.Nat.{ℕ, suc, ◌^◌, ◌≤◌, ◌<◌}
-use native.Mathlib.Nat.{zero-add}
 use native.Mathlib.Omega.{arith}
-use lib.Dec.{T, eqb}
+use lib.Dec.{eqb}
 use lib.IntN.{ℤ, pos, negsuc, nat_abs}
 use lib.ListN.{length, length-append}
 use lib.Signed.{lt_z, mag}
-use borrow.Author.Tests.{ltb-true, eq-eqb, ne_eqb}
-use Rattle.text.specs.Text.{word, decimal, joined}
-use Rattle.text.specs.Put.{Puts}
+use borrow.Author.Tests.{ltb-true}
+use Rattle.text.specs.Text.{word, decimal}
+use Rattle.text.specs.declared.Page.{Page}
 use Rattle.text.proofs.Decimal.{decimal_short}
-use Rattle.text.proofs.Putting.{puts_whole, puts_length}
+use Rattle.text.proofs.Putting.{puts_front}
 use Rattle.report.specs.Line.{refused_line, stopped_line}
+use Rattle.report.proofs.Short.{either}
 use Rattle.verdict.specs.Line.{signed, late_line, short_line, turned_down_line}
 use Rattle.verdict.specs.Verdict.{Writes}
+use Rattle.verdict.specs.Inner.Short.{AddsShort}
 
--- ---- a text in front
-pub writes_by : {Kind : List ℕ → Type 0} (text old new : List ℕ) (r : ℕ) → Kind text → length text ≤ length old → Puts text 0 old new r → Writes Kind old new r
-writes_by text old new r k room p =
-    let w = puts_whole text 0 old (omega arith) p in
-    record { text = text; kind = k; bytes = rw (← zero-add (length text)) w.0; answer = omega (arith, w.1); within = omega (arith, w.1, puts_length p) }
+-- ---- on an empty page
+pub writes_by : {Kind : List ℕ → Type 0} {from to : Page} → from.at ≡ 0 → 80 ≤ length from.out.now → AddsShort Kind from to → Writes Kind from.out.now to.out.now to.at
+writes_by start room a = let f = puts_front (omega (arith, a.short)) (rw start at a.adds.puts) in record { text = a.text; kind = a.kind; bytes = f.0; answer = f.1; within = f.2 }
 
-pub writes_more : {Kind Other : List ℕ → Type 0} {old new : List ℕ} {r : ℕ} → ((text : List ℕ) → Kind text → Other text) → Writes Kind old new r → Writes Other old new r
-writes_more f w = record { text = w.text; kind = f w.text w.kind; bytes = w.bytes; answer = w.answer; within = w.within }
+-- a text of one kind is of another
+pub adds_more : {Kind Other : List ℕ → Type 0} {from to : Page} → ((text : List ℕ) → Kind text → Other text) → AddsShort Kind from to → AddsShort Other from to
+adds_more f a = record { text = a.text; kind = f a.text a.kind; short = a.short; adds = a.adds }
 
--- ---- the lines
-module _ (jobs size : ℕ) where
-  pub late_below : (z : ℤ) → lt_z z (pos 0) ≡ true → size ≡ nat_abs z → joined (word "jobs " ∷ decimal jobs ∷ word " lateness -" ∷ decimal size ∷ word "\n" ∷ []) ≡ late_line jobs z
-  late_below (pos n) e f = absurd (omega (arith, ltb-true n 0 e))
-  late_below (negsuc n) e f = rw f
-
-  pub late_above : (z : ℤ) → lt_z z (pos 0) ≡ false → size ≡ nat_abs z → joined (word "jobs " ∷ decimal jobs ∷ word " lateness " ∷ decimal size ∷ word "\n" ∷ []) ≡ late_line jobs z
-  late_above (pos n) e f = rw f
-  late_above (negsuc n) e f = absurd (subst T e tt)
-
-pub short_some : (number end value : ℕ) → number ≡ 0 → value ≡ end → joined (word "shortest " ∷ decimal value ∷ word "\n" ∷ []) ≡ short_line number end
-short_some number end value e f = rw (eq-eqb number 0 e, f)
-
-pub short_none : (number end : ℕ) → (number ≡ 0 → ⊥) → word "no plan\n" ≡ short_line number end
-short_none number end f = rw (ne_eqb number 0 f)
+-- ---- below 0
+pub signed_below : (z : ℤ) (size : ℕ) → lt_z z (pos 0) ≡ true → size ≡ nat_abs z → word "-" ++ decimal size ≡ signed z
+signed_below (pos n) size below e = absurd (omega (arith, ltb-true n 0 below))
+signed_below (negsuc n) size below e = rw e
 
 -- ---- how long
 -- the digits of a machine word, and of a byte
@@ -56,10 +45,6 @@ signed_short : (z : ℤ) → mag z < 2 ^ 15 → length (signed z) ≤ 6
 signed_short (pos n) h = omega (arith, decimal_short 4 n (omega arith))
 signed_short (negsuc n) h = omega (arith, decimal_short 4 (suc n) (omega arith))
 
-either : (k : ℕ) (b : Bool) (x y : List ℕ) → length x ≤ k → length y ≤ k → length (cond b x y) ≤ k
-either k true x y h i = h
-either k false x y h i = i
-
 pub stopped_short : (value number : ℕ) → value < 2 ^ 64 → number < 256 → length (stopped_line value number) ≤ 80
 stopped_short value number h i = simp length-append (omega (arith, word_short value h, byte_short number i))
 
@@ -69,9 +54,11 @@ refused_short place h = simp length-append (omega (arith, word_short place h, by
 pub turned_down_short : (number value : ℕ) → number < 256 → value < 2 ^ 64 → length (turned_down_line number (pos value)) ≤ 80
 turned_down_short number value h i = either 80 (eqb number 14) _ _ (omega arith) (simp length-append (omega (arith, byte_short number h, word_short value i)))
 
+pub short_short : (number end : ℕ) → end < 2 ^ 64 → length (short_line number end) ≤ 30
+short_short number end h = either 30 (eqb number 0) _ _ (simp length-append (omega (arith, word_short end h))) (omega arith)
+
 -- both lines of a list that is accepted
-pub accepted_short : (jobs : ℕ) (slots : ℤ) (number end : ℕ) → jobs < 2 ^ 64 → mag slots < 2 ^ 15 → end < 2 ^ 64 → length (late_line jobs slots ++ short_line number end) ≤ 80
+pub accepted_short : (jobs : ℕ) (slots : ℤ) (number end : ℕ) → jobs < 2 ^ 64 → mag slots < 2 ^ 15 → length (short_line number end) ≤ 30 → length (late_line jobs slots ++ short_line number end) ≤ 80
 accepted_short jobs slots number end h i j =
     let first : length (late_line jobs slots) ≤ 42 = simp length-append (omega (arith, word_short jobs h, signed_short slots i)) in
-    let second : length (short_line number end) ≤ 30 = either 30 (eqb number 0) _ _ (simp length-append (omega (arith, word_short end j))) (omega arith) in
-    omega (arith, length-append (late_line jobs slots) (short_line number end))
+    omega (arith, length-append (late_line jobs slots) (short_line number end), j)

@@ -5,11 +5,12 @@ use mathlib.Core.Path.{◌≡◌, refl, sym, ap, ap₂, subst, ◌∙◌}
 use Prim.Native.Nat.{ℕ, ◌+◌, ◌*◌, ◌≤◌}
 use native.Mathlib.Omega.{arith}
 use lib.ListN.{length, length-append}
+use Rattle.std.specs.Prelude.{Option, Some, None, Result, Ok, Err}
+use Rattle.refusal.specs.declared.Refusal.{Refusal}
+use Rattle.refusal.specs.Says.{reason_number}
 use Rattle.refusal.specs.Table.{Refuses}
 use Rattle.refusal.proofs.Table.{refuses_one, refuses_not_clear, table_free}
 use Rattle.records.specs.declared.Record.{Record}
-use Rattle.records.specs.declared.Found.{Found}
-use Rattle.records.specs.declared.Found.TheVariants as found
 use Rattle.records.specs.Record.{length_of}
 use Rattle.records.specs.Find.{find_checks, Finds, Stops, Shows}
 use Rattle.records.proofs.Standing.{length_six, stands_one, stands_within}
@@ -28,24 +29,24 @@ contains_one {file} {at} {n} {v} {m} {w} (shows r c z k) (shows {more = others} 
 
 -- ---- what is found, and what the file has from there on
 -- a record: the file has it first
-pub contains_first : {file : List ℕ} {at n v : ℕ} {rest : List Record} (r : Record) → Finds file at (found.Record r) → Contains file at rest n v → (more : List Record) × (rest ≡ r ∷ more) × Contains file (at + length_of r) more n v
+pub contains_first : {file : List ℕ} {at n v : ℕ} {rest : List Record} (r : Record) → Finds file at (Ok (Some r)) → Contains file at rest n v → (more : List Record) × (rest ≡ r ∷ more) × Contains file (at + length_of r) more n v
 contains_first {file} {at} {n} {v} r f (stops x) = let s = finds_record file at r f in absurd (refuses_not_clear (find_checks file at) n v x (stands_clear file at r s.0 s.1))
 contains_first {file} {at} {n} {v} r f (shows {more = more} q c z k) =
     let same = stands_one file at q r z (finds_record file at r f).1 in
     (more, ap (λ p. p ∷ more) same, subst (λ p. Contains file (at + length_of p) more n v) same k)
 
 -- none: it has none
-pub contains_none : {file : List ℕ} {at n v : ℕ} {rest : List Record} (f : Found) → ((r : Record) → f ≡ found.Record r → ⊥) → Finds file at f → Contains file at rest n v → rest ≡ []
+pub contains_none : {file : List ℕ} {at n v : ℕ} {rest : List Record} (f : Result (Option Record) Refusal) → ((r : Record) → f ≡ Ok (Some r) → ⊥) → Finds file at f → Contains file at rest n v → rest ≡ []
 contains_none f none y (stops x) = refl
 contains_none {file} {at} f none y (shows q c z k) = absurd (go f none (table_free (find_checks file at) Stops (Shows file at) f c y.outcome))
   where
-    go : (f : Found) → ((r : Record) → f ≡ found.Record r → ⊥) → Shows file at f → ⊥
-    go (found.Record r) none x = none r refl
-    go found.End none x = x
-    go (found.Stopped m w) none x = x.1
+    go : (f : Result (Option Record) Refusal) → ((r : Record) → f ≡ Ok (Some r) → ⊥) → Shows file at f → ⊥
+    go (Ok (Some r)) none x = none r refl
+    go (Ok None) none x = x
+    go (Err refusal) none x = x
 
 -- what is found takes six bytes that the file has
-pub found_within : (file : List ℕ) (at size : ℕ) (r : Record) → Finds file at (found.Record r) → size ≡ length_of r → (size ≡ 6) × (at + size ≤ length file) × (length file ≤ 24576)
+pub found_within : (file : List ℕ) (at size : ℕ) (r : Record) → Finds file at (Ok (Some r)) → size ≡ length_of r → (size ≡ 6) × (at + size ≤ length file) × (length file ≤ 24576)
 found_within file at size r f e = let x = finds_record file at r f in (e ∙ length_six r, omega (arith, stands_within file at r x.1), x.0)
 
 -- ---- where a walk stands: at an offset, behind these records
@@ -58,7 +59,7 @@ pub behind_none : (file : List ℕ) → Behind file 0 []
 behind_none file = record { onward = λ rest n v x. x; back = λ records n v x. (records, refl, x); few = omega arith }
 
 -- a record more
-pub behind_more : (file : List ℕ) (at size : ℕ) (done : List Record) (r : Record) → Behind file at done → Finds file at (found.Record r) → size ≡ length_of r → Behind file (at + size) (done ++ (r ∷ []))
+pub behind_more : (file : List ℕ) (at size : ℕ) (done : List Record) (r : Record) → Behind file at done → Finds file at (Ok (Some r)) → size ≡ length_of r → Behind file (at + size) (done ++ (r ∷ []))
 behind_more file at size done r b f e =
     let x = finds_record file at r f in
     let within = found_within file at size r f e in
@@ -77,12 +78,12 @@ module _ (file : List ℕ) (at : ℕ) (done : List Record) (b : Behind file at d
   here : (n v : ℕ) → Refuses (find_checks file at) n v → Contains file 0 done n v
   here n v x = subst (λ l. Contains file 0 l n v) (append-nil done) (b.onward [] n v (stops x))
 
-  pub ends_whole : Finds file at found.End → Contains file 0 done 255 0
+  pub ends_whole : Finds file at (Ok None) → Contains file 0 done 255 0
   ends_whole f =
-      let s = finds_stop file at found.End (λ x. x) f in
+      let s = finds_stop file at (Ok None) (λ x. x) f in
       subst (λ m. Contains file 0 done m 0) (sym s.3.0) (subst (Contains file 0 done s.0) (sym s.3.1) (here s.0 s.1 s.2))
 
-  pub ends_stopped : (n v : ℕ) → Finds file at (found.Stopped n v) → (n ≡ 255 → ⊥) × Contains file 0 done n v
-  ends_stopped n v f =
-      let s = finds_stop file at (found.Stopped n v) (λ x. x.1) f in
-      (s.3.0, subst (λ m. Contains file 0 done m v) (sym s.3.1.0) (subst (Contains file 0 done s.0) (sym s.3.1.1) (here s.0 s.1 s.2)))
+  pub ends_stopped : (refusal : Refusal) → Finds file at (Err refusal) → Contains file 0 done (reason_number refusal.reason) refusal.value
+  ends_stopped refusal f =
+      let s = finds_stop file at (Err refusal) (λ x. x) f in
+      subst (λ m. Contains file 0 done m refusal.value) (sym s.3.0) (subst (Contains file 0 done s.0) (sym s.3.1) (here s.0 s.1 s.2))

@@ -4,59 +4,48 @@
 
 mod gather;
 mod lines;
+mod row;
 
-ghost use Rattle.verdict.specs.Verdict.{Verdicts, Together, Weighs, Writes};
-ghost use Rattle.verdict.specs.Inner.Gather.{ForRecords, Rows};
+ghost use Rattle.verdict.specs.Verdict.{Verdicts, Together, Weighs};
+ghost use Rattle.verdict.specs.Inner.Gather.{ForRecords, Holds};
+ghost use Rattle.verdict.specs.Inner.Short.{AddsShort};
 
-use gather::{Drawn, Gathered};
-use planner::Late;
+use gather::Rows;
+use text::Page;
 
 // The text at the front of the bytes lent, which are enough for any file; the answer is its length.
 pub fn verdict(file: &[u8], out: &mut [u8; 80]) -> usize
     ensures { Verdicts file.now out.old out.new result }
 {
-    let mut starts = [0u16; 4096];
-    let mut deadlines = [0u16; 4096];
-    let mut pairs = [0u16; 8192];
-    match gather::gather(file, &mut starts, &mut deadlines, &mut pairs) {
-        Gathered::Stopped(number, value) => lines::stop(out, number, value),
-        Gathered::Whole(sizes) => {
-            let jobs = sizes.jobs;
-            let paired = sizes.paired;
-            together(
-                file,
-                &starts[..jobs],
-                &mut deadlines[..jobs],
-                &pairs[..paired],
-                out,
-            )
-        }
+    let mut page = Page { out, at: 0 };
+    let mut rows = Rows::new();
+    match rows.gather(file) {
+        Ok(()) => together(&mut page, file, &mut rows),
+        Err(refusal) => lines::stop(&mut page, refusal),
     }
+    page.at
 }
 
-// The list of a file's records, by the rows that its jobs and orders give.
-fn together(
-    file: &[u8],
-    starts: &[u16],
-    deadlines: &mut [u16],
-    pairs: &[u16],
-    out: &mut [u8; 80],
-) -> usize
-    ensures { ForRecords file.now (λ records. Rows records starts.now deadlines.old pairs.now → Writes (Together records) out.old out.new result) }
+// The list of a file's records, by the rows that they give.
+fn together(page: &mut Page, file: &[u8], rows: &mut Rows)
+    ensures { ForRecords file.now (λ records. Holds records rows.old → AddsShort (Together records) page.old page.new) }
 {
-    match gather::draw_in(file, deadlines) {
-        Drawn::At(place) => lines::stray(out, place),
-        Drawn::All => weigh(starts, deadlines, pairs, out),
+    match gather::draw_in(file, &mut rows.deadlines) {
+        Ok(()) => weigh(page, rows),
+        Err(place) => lines::stray(page, place),
     }
 }
 
 // The lines of a list.
-fn weigh(starts: &[u16], deadlines: &[u16], pairs: &[u16], out: &mut [u8; 80]) -> usize
-    ensures { Writes (Weighs starts.now deadlines.now pairs.now) out.old out.new result }
+fn weigh(page: &mut Page, rows: &Rows)
+    ensures { AddsShort (Weighs rows.now.starts rows.now.deadlines rows.now.pairs) page.old page.new }
 {
+    let starts = rows.starts.entries();
+    let deadlines = rows.deadlines.entries();
+    let pairs = rows.pairs.entries();
     let short = planner::shortest(starts, deadlines, pairs);
     match planner::lateness(starts, deadlines, pairs) {
-        Late::By(slots) => lines::accepted(out, starts.len(), slots, short),
-        Late::Refused(number, value) => lines::turned_down(out, number, value),
+        Ok(slots) => lines::accepted(page, starts.len(), slots, short),
+        Err(refusal) => lines::turned_down(page, refusal),
     }
 }

@@ -1,69 +1,69 @@
-// The lines of a verdict, each at its place in bytes that are enough for all of them.
-ghost use Rattle.std.specs.Prelude.{◌++◌, ◌≡◌, pos, nat_abs};
-ghost use Rattle.refusal.specs.Says.{number_of, value_of};
+// The lines of a verdict, each put on a page.
+ghost use Rattle.std.specs.Prelude.{◌++◌, ◌≡◌, ◌≤◌, length, pos};
+ghost use Rattle.refusal.specs.Says.{reason_number, number_of, value_of};
 ghost use Rattle.report.specs.Line.{refused_line};
-ghost use Rattle.text.specs.Put.{Puts};
+ghost use Rattle.text.specs.Put.{Adds};
 ghost use Rattle.verdict.specs.Line.{late_line, short_line, turned_down_line, stop_line};
-ghost use Rattle.verdict.specs.Verdict.{Writes};
+ghost use Rattle.verdict.specs.Inner.Short.{AddsShort};
 
-use refusal::Answer;
+use refusal::{Answer, Reason, Refusal};
+use text::Page;
 
 // A file that is not read to its end.
-pub fn stop(out: &mut [u8; 80], number: u8, value: usize) -> usize
-    ensures { Writes (λ text. text ≡ stop_line number value) out.old out.new result }
+pub fn stop(page: &mut Page, refusal: Refusal)
+    ensures { AddsShort (λ text. text ≡ stop_line (reason_number refusal.reason) refusal.value) page.old page.new }
 {
-    if number == 9 {
-        return report::too_long(out, 0);
+    match refusal.reason {
+        Reason::FileTooLong => report::too_long(page),
+        reason => report::stopped(page, refusal.value, usize::from(reason.number())),
     }
-    report::stopped(out, 0, value, number as usize)
 }
 
 // A record that names no job of the file.
-pub fn stray(out: &mut [u8; 80], place: usize) -> usize
-    ensures { Writes (λ text. text ≡ refused_line place 5) out.old out.new result }
+pub fn stray(page: &mut Page, place: usize)
+    ensures { AddsShort (λ text. text ≡ refused_line place 5) page.old page.new }
 {
-    report::refused(out, 0, place, 5)
+    report::refused(page, place, Reason::NotHeld.number());
 }
 
 // A list that is refused.
-pub fn turned_down(out: &mut [u8; 80], number: u8, value: usize) -> usize
-    ensures { Writes (λ text. text ≡ turned_down_line number (pos value)) out.old out.new result }
+pub fn turned_down(page: &mut Page, refusal: Refusal)
+    ensures { AddsShort (λ text. text ≡ turned_down_line (reason_number refusal.reason) (pos refusal.value)) page.old page.new }
 {
-    let values = [number as usize, value];
-    if number == 14 {
-        return text::fill(out, 0, b"jobs 0\n", &values);
+    match refusal.reason {
+        Reason::NoJobs => page.fill(b"jobs 0\n", &[]),
+        reason => {
+            let values = [usize::from(reason.number()), refusal.value];
+            page.fill(b"list refused \x00 at \x01\n", &values);
+        }
     }
-    text::fill(out, 0, b"list refused \x00 at \x01\n", &values)
 }
 
 // A list that is accepted: how late, and how short.
-pub fn accepted(out: &mut [u8; 80], jobs: usize, slots: i16, short: Answer) -> usize
-    ensures { Writes (λ text. text ≡ late_line jobs slots ++ short_line (number_of short) (value_of short)) out.old out.new result }
+pub fn accepted(page: &mut Page, jobs: usize, slots: i16, answer: Answer)
+    ensures { AddsShort (λ text. text ≡ late_line jobs slots ++ short_line (number_of answer) (value_of answer)) page.old page.new }
 {
-    let next = late(out, jobs, slots);
-    let values = [refusal::value(short)];
-    if refusal::number(short) == 0 {
-        return text::fill(out, next, b"shortest \x00\n", &values);
-    }
-    text::fill(out, next, b"no plan\n", &values)
+    late(page, jobs, slots);
+    short(page, answer);
 }
 
-fn late(out: &mut [u8], jobs: usize, slots: i16) -> usize
-    ensures { Puts (late_line jobs slots) 0 out.old out.new result }
+fn late(page: &mut Page, jobs: usize, slots: i16)
+    ensures { Adds (late_line jobs slots) page.old page.new }
 {
-    let values = [jobs, magnitude(slots)];
+    let values = [jobs, usize::from(slots.unsigned_abs())];
     if slots < 0 {
-        return text::fill(out, 0, b"jobs \x00 lateness -\x01\n", &values);
+        page.fill(b"jobs \x00 lateness -\x01\n", &values);
+    } else {
+        page.fill(b"jobs \x00 lateness \x01\n", &values);
     }
-    text::fill(out, 0, b"jobs \x00 lateness \x01\n", &values)
 }
 
-// A whole number without its sign.
-fn magnitude(slots: i16) -> usize
-    ensures { result ≡ nat_abs slots }
+fn short(page: &mut Page, answer: Answer)
+    ensures few { length (short_line (number_of answer) (value_of answer)) ≤ 30 }
+    ensures adds { Adds (short_line (number_of answer) (value_of answer)) page.old page.new }
 {
-    if slots < 0 {
-        return -(slots as i32) as usize;
+    match answer {
+        Ok(slots) => page.fill(b"shortest \x00\n", &[slots]),
+        Err(_) => page.fill(b"no plan\n", &[]),
     }
-    slots as usize
 }

@@ -1,14 +1,25 @@
 -- Counting the pairs, and writing on from an offset.
 -- Assumes nothing.
-use Rattle.std.specs.Prelude.{List, ◌≡◌, ℕ, ◌+◌, length, get_or}
+use Rattle.std.specs.Prelude.{List, ◌≡◌, ℕ, ◌+◌, length}
+use Rattle.std.specs.List.{sum_by}
 use Rattle.std.proofs.lemmas.List.Edits.{sets}
 use Rattle.schedule.specs.Count.{count}
-use Rattle.schedule.specs.Theory.Sum.{sum}
 use Rattle.sets.specs.Sets.{has}
+use Rattle.jobfile.specs.Writer.{gather, bytes_of_all, job_record, follower_records}
 
--- the sizes of the first sets together
-abbrev pub pairs_in : ℕ → List ℕ → ℕ
-pairs_in size before = sum size (λ b. count 64 (has (get_or before b 0)))
+-- the sizes of the sets together
+abbrev pub pairs_in : List ℕ → ℕ
+pairs_in before = sum_by (λ set. count 64 (has set)) before
+
+-- the bytes of all jobs, of the pairs of one first job, and of all pairs
+abbrev pub jobs_bytes : List ℕ → List ℕ → List ℕ
+jobs_bytes starts latest = bytes_of_all (gather (length starts) (job_record starts latest))
+
+abbrev pub followers_bytes : List ℕ → ℕ → List ℕ
+followers_bytes before a = bytes_of_all (follower_records (length before) before a)
+
+abbrev pub orders_bytes : List ℕ → List ℕ
+orders_bytes before = bytes_of_all (gather (length before) (follower_records (length before) before))
 
 -- the bytes stored at an offset, and the offset past them
 pub record Continues (at : ℕ) (bytes old new : List ℕ) (r : ℕ) : Type 0 where

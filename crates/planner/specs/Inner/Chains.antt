@@ -1,6 +1,7 @@
 -- Rows of predecessors, and an order of a before b more.
 -- Assumes nothing.
-use Rattle.std.specs.Prelude.{cond, ◌||◌, List, [], ◌∷◌, ◌↔◌, ◌⊎◌, ◌≡◌, ℕ, zero, suc, T, eqb, get_or}
+use Rattle.std.specs.Prelude.{cond, ◌||◌, List, ◌↔◌, ◌⊎◌, ◌≡◌, ℕ, T, eqb, get_or, map}
+use Rattle.std.specs.List.{range_with_len}
 use Rattle.std.specs.Int.Bits.{bit_or}
 use Rattle.planner.specs.declared.chains.Pending.{Pending}
 use Rattle.sets.specs.Sets.{has}
@@ -17,11 +18,6 @@ nothing = record { job = record { 0 = 0 }; more = 0 }
 abbrev pub joined_of : ℕ → ℕ → Pending → ℕ
 joined_of row y p = cond (has row p.job.0 || eqb p.job.0 y) (bit_or row p.more) row
 
--- a list by its entries
-unfoldable pub entries : ℕ → (ℕ → ℕ) → List ℕ
-entries zero f = []
-entries (suc n) f = f 0 ∷ entries n (λ i. f (suc i))
-
 -- 64 such rows
 unfoldable pub joined_rows : List ℕ → Pending → List ℕ
-joined_rows rows p = entries 64 (λ y. joined_of (get_or rows y 0) y p)
+joined_rows rows p = map (λ y. joined_of (get_or rows y 0) y p) (range_with_len 0 64)

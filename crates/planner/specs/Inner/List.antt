@@ -8,7 +8,6 @@ use Rattle.sets.specs.Sets.{has}
 use Rattle.book.specs.Told.{cores, jobs_in, row_in}
 use Rattle.refusal.specs.Table.{check, Table}
 use Rattle.planner.specs.List.{Judged, judged, TurnedDown}
-use Rattle.planner.specs.Inner.Rows.{Hands}
 
 -- rows of a list that has passed every check but the last: what tightening asks of them
 pub record Judgeable (starts deadlines before : List ℕ) : Type 0 where
@@ -20,6 +19,12 @@ pub record Judgeable (starts deadlines before : List ℕ) : Type 0 where
   pub closed : Closed (jobs_in (length starts) starts before)
   pub loopless : Loopless (jobs_in (length starts) starts before)
   pub held : (a b : ℕ) → T (has (get_or before b 0) a) → (a < length starts) × (b < length starts)
+
+-- the first entries of a row, and the rest as it was
+pub record Hands (size : ℕ) (times row after : List ℕ) : Type 0 where
+  pub same_length : length after ≡ length row
+  pub front : (i : ℕ) → i < size → get_or after i 0 ≡ get_or times i 0
+  pub rest : (i : ℕ) → size ≤ i → get_or after i 0 ≡ get_or row i 0
 
 -- accepted with 0: the latest times in the receiving row
 pub record Settled (starts deadlines before row : List ℕ) (r : Judged) : Type 0 where

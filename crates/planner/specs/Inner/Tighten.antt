@@ -1,19 +1,17 @@
 -- A row of deadlines tightened to the latest times beneath it, pass by pass.
 -- Assumes nothing.
-use Rattle.std.specs.Prelude.{Bool, true, false, ◌&&◌, List, ◌≡◌, ℕ, ◌≤◌, ◌<◌, T, ltb, length, get_or}
+use Rattle.std.specs.Prelude.{Bool, true, false, ◌&&◌, List, Option, Some, None, ◌≡◌, ℕ, ◌≤◌, ◌<◌, T, ltb, length, get_or}
 use Rattle.schedule.specs.Jobs.{Jobs, Closed, Loopless}
 use Rattle.schedule.specs.Plan.{HasPlan}
 use Rattle.schedule.specs.Times.{Earliest, Latest}
-use Rattle.planner.specs.declared.tighten.Moved.{Moved}
-use Rattle.planner.specs.declared.tighten.Moved.TheVariants.{Those, Shut}
 use Rattle.planner.specs.declared.tighten.Due.{Due}
 use Rattle.sets.specs.Sets.{has}
 use Rattle.book.specs.Told.{jobs_in, row_in}
-use Rattle.planner.specs.Inner.Tighten.Tables.{Rising, Known}
 use Rattle.planner.specs.Inner.Tighten.Sink.{Sunk}
 use Rattle.planner.specs.Inner.Tighten.Rule.{Obeys}
 -- the tables of the rule, earliest times, followers, the rule itself
 pub mod Tables
+pub mod Known
 pub mod Early
 pub mod Sink
 pub mod Rule
@@ -35,21 +33,15 @@ pub record Tightens (m size : ℕ) (start before row next : List ℕ) (fits : Bo
   pub rest : fits ≡ true → (i : ℕ) → size ≤ i → get_or next i 0 ≡ get_or row i 0
   pub none : fits ≡ false → HasPlan m (jobs_in size start before) (row_in row) → ⊥
 
--- a row with the tables of its jobs: each in its limits, and some jobs have these tables
-pub record Tabled (size : ℕ) (order followers times late rank row : List ℕ) : Type 0 where
-  pub few : size ≤ 64
-  pub long : length row ≡ 64
-  pub jobs : (k : ℕ) → k < size → get_or order k 0 < size
-  pub rising : Rising times
-  pub ranks : (i : ℕ) → i < size → get_or rank i 0 < 65
-  pub known : (J : Jobs) × (early : ℕ → ℕ) × (J.size ≡ size) × Known J early followers times late rank
-
--- the jobs of a set whose time is below a limit, and the greatest such time; every time of the set has 16 bits
+-- the jobs of a set whose time is below a limit, and the greatest such time
 pub record DueAmong (limit among : ℕ) (row : List ℕ) (r : Due) : Type 0 where
   pub jobs : (j : ℕ) → has r.jobs j ≡ (has among j && ltb (get_or row j 0) limit)
   pub top : (j : ℕ) → T (has r.jobs j) → get_or row j 0 ≤ r.d
-  pub some : (r.jobs ≡ 0 → ⊥) → r.d < limit
-  pub low : (j : ℕ) → T (has among j) → get_or row j 0 < 65536
+  pub below : r.d < limit
+
+-- or no job of the set is below the limit
+abbrev pub NoneAmong : ℕ → ℕ → List ℕ → Type 0
+NoneAmong limit among row = (j : ℕ) → T (has among j) → limit ≤ get_or row j 0
 
 -- every job that is due obeys the rule at d
 abbrev pub AtD : ℕ → Jobs → (ℕ → ℕ) → (ℕ → ℕ) → ℕ → Type 0
@@ -63,13 +55,13 @@ Swept m J early row = (k : ℕ) → k < J.size → AtD m J early row (row k)
 abbrev pub Fell : Jobs → List ℕ → List ℕ → Type 0
 Fell J row next = (k : ℕ) × (k < J.size) × (get_or next k 0 < get_or row k 0)
 
--- which jobs moved: where none did the row is as it was, and more is known of it
-abbrev pub Moves : ℕ → Jobs → (ℕ → ℕ) → List ℕ → List ℕ → Type 0 → Moved → Type 0
-Moves m J early row next still (Those moved) =
+-- which jobs moved: where none did the row is as it was, and more is known of it; or no plan meets the row
+abbrev pub Moves : ℕ → Jobs → (ℕ → ℕ) → List ℕ → List ℕ → Type 0 → Option ℕ → Type 0
+Moves m J early row next still (Some moved) =
     Sunk m J early row next
     × (moved ≡ 0 → (next ≡ row) × still)
     × ((moved ≡ 0 → ⊥) → Fell J row next)
-Moves m J early row next still Shut = HasPlan m J (row_in row) → ⊥
+Moves m J early row next still None = HasPlan m J (row_in row) → ⊥
 
 -- the greatest consistent row beneath, or none
 pub record Settles (m : ℕ) (J : Jobs) (early : ℕ → ℕ) (row next : List ℕ) (fits : Bool) : Type 0 where

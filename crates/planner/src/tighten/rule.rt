@@ -1,94 +1,80 @@
 // The rule for one job and one d.
-ghost use Rattle.std.specs.Prelude.{◌≡◌, ℕ, ◌<◌, ◌≤◌, get_or};
+ghost use Rattle.std.specs.Prelude.{◌≡◌, ℕ, ◌<◌, ◌≤◌, IfSome, MatchOption, get_or};
 ghost use Rattle.schedule.specs.Count.{count};
 ghost use Rattle.schedule.specs.Jobs.{Jobs};
-ghost use Rattle.schedule.specs.Times.{Earliest};
 ghost use Rattle.book.specs.Told.{cores};
-ghost use Rattle.planner.specs.Inner.Tighten.Tables.{Rising};
+ghost use Rattle.planner.specs.Inner.Tighten.Sink.{Eased};
 ghost use Rattle.planner.specs.Inner.Tighten.Rule.{pressed, At, Pressure, Ruled};
 
-use crate::times::wide;
+use crate::tighten::Due;
+use crate::tighten::tables::Tables;
 use book::CORES;
 use schedule::JobIndex;
 
-// An entry of the times.
-fn time_at(times: &[u16; 65], k: usize) -> usize
-    requires { k < 65 }
-    ensures { (result ≡ get_or times.now k 0) × (result < 65536) }
-{
-    wide(times[k])
-}
+impl Tables<'_> {
+    // The latest time that the rule leaves a job at d.
+    pub fn lowered(&self, job: JobIndex, held: u16, due: Due) -> Option<u16>
+        requires { (job.0 < self.now.size) × (held ≤ due.d) }
+        ensures within { IfSome result (λ time. time ≤ held) }
+        ensures ruled { (J : Jobs) (early row : ℕ → ℕ) → At J early row job.0 held due self.now → MatchOption result (Eased cores J early row job.0 0) (Ruled cores J early row job.0 due.d) }
+    {
+        let begin = self.times[usize::from(self.rank[job.0])];
+        if held <= begin {
+            return None;
+        }
+        let slots = self.pressure(job, held, due).div_ceil(CORES);
+        let left = due.d.saturating_sub(slots as u16);
+        if held <= left {
+            return Some(held);
+        }
+        if left <= begin {
+            return None;
+        }
+        Some(left)
+    }
 
-// N with the late starters of an entry: how many jobs other than this one are due, and follow it or start late.
-fn pressing(due: u64, followers: u64, late: &[u64; 65], k: usize, job: JobIndex) -> usize
-    requires { k < 65 }
-    ensures { result ≡ count 64 (pressed due followers (get_or late.now k 0) job.0) }
-{
-    sets::size(sets::without(due & (followers | late[k]), job))
-}
-
-// N at the first s at which N is at least CORES(d - s), 0 where there is none.
-fn pressure<'a>(
-    job: JobIndex,
-    held: usize,
-    d: usize,
-    due: u64,
-    followers: u64,
-    from: usize,
-    times: &'a [u16; 65],
-    late: &'a [u64; 65],
-) -> usize
-    requires { Rising times.now × (job.0 < 64) × (from < 65) × (get_or times.now from 0 < held) × (held ≤ d) × (d < 65536) }
-    ensures { (result ≤ 64) × ((J : Jobs) (early row : ℕ → ℕ) → At J early row job.0 held d due followers from times.now late.now → Pressure cores J early row job.0 d result) }
-{
-    let least = CORES * (d - held);
-    let mut most: usize = 64;
-    let mut k = from;
-    while time_at(times, k) < held {
-        let room = CORES * (d - time_at(times, k));
-        if most >= room {
-            most = pressing(due, followers, late, k, job);
-            if most >= room {
-                return most;
+    // N at the first s at which N is at least CORES(d - s), 0 where there is none.
+    fn pressure(&self, job: JobIndex, held: u16, due: Due) -> usize
+        requires { (job.0 < self.now.size) × (get_or self.now.times.now (get_or self.now.rank.now job.0 0) 0 < held) × (held ≤ due.d) }
+        ensures { (result ≤ 64) × ((J : Jobs) (early row : ℕ → ℕ) → At J early row job.0 held due self.now → Pressure cores J early row job.0 due.d result) }
+    {
+        let d = usize::from(due.d);
+        let held = usize::from(held);
+        let least = CORES * (d - held);
+        // N falls as s rises, so a count bounds those after it
+        let mut most: usize = 64;
+        if most < least {
+            return 0;
+        }
+        let from = usize::from(self.rank[job.0]);
+        let times = self.times;
+        let late = self.late;
+        for (&time, &late) in times[from..].iter().zip(&late[from..]) {
+            let s = usize::from(time);
+            if held <= s {
+                // the last s is the job's own time
+                let own = self.pressing(job, due.jobs, late);
+                return if own < least { 0 } else { own };
             }
-            if most < least {
-                return 0;
+            let room = CORES * (d - s);
+            if room <= most {
+                most = self.pressing(job, due.jobs, late);
+                if room <= most {
+                    return most;
+                }
+                if most < least {
+                    return 0;
+                }
             }
         }
-        k += 1;
+        0
     }
-    let last = pressing(due, followers, late, k, job);
-    if last >= least {
-        return last;
-    }
-    0
-}
 
-// The latest time that the rule leaves a job at d: 0 where it leaves none.
-pub fn lowered<'a>(
-    job: JobIndex,
-    held: usize,
-    d: usize,
-    due: u64,
-    followers: u64,
-    from: usize,
-    times: &'a [u16; 65],
-    late: &'a [u64; 65],
-) -> usize
-    requires { Rising times.now × (job.0 < 64) × (from < 65) × (held ≤ d) × (d < 65536) }
-    ensures { (result ≤ held) × ((J : Jobs) (early row : ℕ → ℕ) → At J early row job.0 held d due followers from times.now late.now → Earliest J early → Ruled cores J early row job.0 d result) }
-{
-    let begin = time_at(times, from);
-    if held <= begin {
-        return 0;
+    // N with these late starters: how many jobs other than this one are due, and follow it or start late.
+    fn pressing(&self, job: JobIndex, due: u64, late: u64) -> usize
+        requires { job.0 < self.now.size }
+        ensures { result ≡ count 64 (pressed due (get_or self.now.followers.now job.0 0) late job.0) }
+    {
+        sets::size(sets::without(due & (self.followers[job.0] | late), job))
     }
-    let n = pressure(job, held, d, due, followers, from, times, late);
-    let slots = (n + (CORES - 1)) / CORES;
-    if held + slots <= d {
-        return held;
-    }
-    if d <= begin + slots {
-        return 0;
-    }
-    d - slots
 }

@@ -1,4 +1,4 @@
-use Rattle.std.proofs.Common.{ℕ, ◌-◌, ap, ◌∙◌, arith, pow_pos, rules}
+use Rattle.std.proofs.Common.{ℕ, ◌-◌, ap, ◌∙◌, arith}
 use Rattle.sets.specs.Sets.{has}
 use Rattle.sets.proofs.Bits.{low_has, only_is}
 use Rattle.sets.proofs.Range.{in_below, below_out}
@@ -6,9 +6,6 @@ use Rattle.sets.proofs.below.Goals as goal
 
 pub returns-then-n-ge-JOBS : goal.returns-then-n-ge-JOBS
 returns-then-n-ge-JOBS c = below_out c.args.n _ c.if-n-ge-JOBS.true (low_has 64)
-
-pub overflow_sub-result : goal.overflow_sub-result
-overflow_sub-result c = omega (arith, only_is c.args.n (omega arith), pow_pos c.args.n)
 
 pub returns : goal.returns
 returns c =

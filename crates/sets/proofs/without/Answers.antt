@@ -1,4 +1,3 @@
-use Rattle.std.proofs.Common.{rules}
 use Rattle.sets.proofs.Bits.{without_has}
 use Rattle.sets.proofs.Range.{without_out}
 use Rattle.sets.proofs.without.Goals as goal

@@ -5,5 +5,4 @@ use Rattle.firmware.proofs.list.firmware_judge.Goals as goal
 pub returns : goal.returns
 returns c =
     let a = c.args in
-    rw (c.number.ensures, c.value.ensures)
-    (says_told (λ n v. Judges a.starts.now a.deadlines.now a.pairs.now a.latest.now (judged c.judge-told.new.latest n v)) c.judge-told.result c.judge-told.ensures)
+    rw (c.tell.ensures.number, c.tell.ensures.value) (says_told (λ n v. Judges a.starts.now a.deadlines.now a.pairs.now a.latest.now (judged c.judge.new.latest n v)) _ c.judge.ensures)

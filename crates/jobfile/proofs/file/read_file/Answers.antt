@@ -1,29 +1,23 @@
-use Rattle.jobfile.proofs.Events.{tells_halted}
-use Rattle.jobfile.proofs.Single.{request_told, underway_begins, underway_ends, underway_less, underway_room, underway_more}
+use mathlib.Core.Path.{◌≡◌, ap, ◌∙◌}
+use Rattle.std.proofs.Common.{rules}
+use Rattle.std.specs.Prelude.{Some, None, Ok}
+use Rattle.jobfile.proofs.Events.{tells_end, tells_stop}
+use Rattle.jobfile.proofs.Single.{request_told, underway_ends, underway_more}
 use Rattle.jobfile.proofs.file.read_file.Goals as goal
 
-pub loop-answer-init : goal.loop-answer-init
-loop-answer-init c = underway_begins _ _ _ c.requires
-
-pub read-event-requires : goal.read-event-requires
-read-event-requires c = c.loop-answer.invariant.made
-
+-- at the end
 pub returns-in_default : goal.returns-in_default
 returns-in_default c =
-    tells_halted _ _ c.read-event.result c.in_default.not-Request
-    (λ n v h x. underway_ends _ _ _ _ _ _ _ c.loop-answer.invariant _ x h) c.read-event.ensures
+    let none : c.in_default.field-0 ≡ None = search rules in
+    tells_end _ _ _ (c.in_default.is ∙ ap Ok none) (λ x. underway_ends _ _ _ _ _ _ _ c.loop-answer.invariant _ x tt) c.read-event.ensures
 
-pub bounds-answers-records : goal.bounds-answers-records
-bounds-answers-records c =
-    let told = request_told _ _ _ _ _ _ _ c.in-Request.is c.read-event.ensures in
-    underway_room _ _ _ _ _ _ _ c.loop-answer.invariant _ told.1 told.0
-
-pub loop-answer-smaller : goal.loop-answer-smaller
-loop-answer-smaller c =
-    let told = request_told _ _ _ _ _ _ _ c.in-Request.is c.read-event.ensures in
-    underway_less _ _ _ _ _ _ _ c.loop-answer.invariant _ told.1 told.0
+-- at a stop
+pub returns-in_default-2 : goal.returns-in_default-2
+returns-in_default-2 c =
+    tells_stop _ _ _ _ c.in_default.is (λ n v h x. underway_ends _ _ _ _ _ _ _ c.loop-answer.invariant _ x h) c.read-event.ensures
 
 pub loop-answer-preserved : goal.loop-answer-preserved
 loop-answer-preserved c =
-    let told = request_told _ _ _ _ _ _ _ c.in-Request.is c.read-event.ensures in
+    let some : c.in-Ok-Some.field-0 ≡ Some c.in-Ok-Some.answer = search rules in
+    let told = request_told _ _ _ _ _ _ _ (c.in-Ok-Some.is ∙ ap Ok some) c.read-event.ensures in
     rw c.number.ensures (underway_more _ _ _ _ _ _ _ c.loop-answer.invariant _ told.1 told.0)

@@ -1,18 +1,13 @@
-use mathlib.Core.Path.{sym, ◌∙◌}
+use mathlib.Core.Path.{sym, ap, ◌∙◌}
 use native.Mathlib.Omega.{arith}
-use Rattle.keying.proofs.Begin.{begin_first, begin_second, begin_third, begin_past}
+use Rattle.std.specs.Prelude.{cond}
+use Rattle.keying.proofs.Begin.{begin_starts}
 use Rattle.keying.proofs.keyed.begin.Goals as goal
 
-pub returns-then-byte_at-ne239 : goal.returns-then-byte_at-ne239
-returns-then-byte_at-ne239 c = (sym (begin_first _ (λ e. c.if-byte_at-ne239.true (c.byte_at.ensures ∙ e))), omega arith)
+pub returns-then-starts_with : goal.returns-then-starts_with
+returns-then-starts_with c =
+    (sym (begin_starts c.args.text.now ∙ ap (λ starts. cond starts 3 0) (sym c.starts_with.ensures.value ∙ c.if-starts_with.true)), c.starts_with.ensures.bound c.if-starts_with.true)
 
-pub returns-then-byte_at-ne187 : goal.returns-then-byte_at-ne187
-returns-then-byte_at-ne187 c = (sym (begin_second _ (sym c.byte_at.ensures ∙ c.if-byte_at-ne239.false) (λ e. c.if-byte_at-ne187.true (c.byte_at-2.ensures ∙ e))), omega arith)
-
-pub returns-then-byte_at-ne191 : goal.returns-then-byte_at-ne191
-returns-then-byte_at-ne191 c = (sym (begin_third _ (sym c.byte_at.ensures ∙ c.if-byte_at-ne239.false) (sym c.byte_at-2.ensures ∙ c.if-byte_at-ne187.false) (λ e. c.if-byte_at-ne191.true (c.byte_at-3.ensures ∙ e))), omega arith)
-
-pub returns : goal.returns
-returns c =
-    let p = begin_past _ (sym c.byte_at.ensures ∙ c.if-byte_at-ne239.false) (sym c.byte_at-2.ensures ∙ c.if-byte_at-ne187.false) (sym c.byte_at-3.ensures ∙ c.if-byte_at-ne191.false) in
-    (sym p.0, p.1)
+pub returns-else-starts_with : goal.returns-else-starts_with
+returns-else-starts_with c =
+    (sym (begin_starts c.args.text.now ∙ ap (λ starts. cond starts 3 0) (sym c.starts_with.ensures.value ∙ c.if-starts_with.false)), omega arith)

@@ -1,28 +1,41 @@
+use mathlib.Core.Path.{◌≡◌}
+use Prim.Native.Nat.{◌+◌, ◌<◌}
 use native.Mathlib.Omega.{arith}
-use borrow.Author.Count.{below_more}
 use borrow.Author.Rules.{rules}
-use Rattle.planner.proofs.Pairs.{held_both, earned, spells_more, spells_held}
-use Rattle.planner.proofs.ListSound.{found_at}
+use Rattle.planner.specs.List.{order_at}
+use Rattle.planner.specs.Inner.Passes.{Passes, at_place}
+use Rattle.planner.specs.Inner.Entries.{Spells}
+use Rattle.planner.proofs.Pairs.{found_at, clear_more, Met, pair_met, held_both, earned, spells_more, spells_held}
 use Rattle.planner.proofs.entries.looping_pair.Goals as goal
 
-pub returns-then-number-ne0 : goal.returns-then-number-ne0
-returns-then-number-ne0 c =
+pub returns-in_err-map_err : goal.returns-in_err-map_err
+returns-in_err-map_err c =
+    let pairs = c.args.pairs.now in
+    let p = c.in-Some.p in
+    let m : Met pairs c.loop-p.p-iterator c.next.new.self p c.in-Some.pair.now = pair_met _ _ _ _ c.in-Some.pair c.loop-p.invariant.0 (search rules) in
+    let placed : c.map_err.result ≡ at_place p c.closes.result = search rules in
+    let at : Passes (order_at pairs p) c.map_err.result = rw placed (earned _ _ p _ _ _ (rw m.place c.loop-p.invariant.2) (rw c.from-first.ensures m.first) (rw c.from-second.ensures m.second) c.closes.ensures) in
+    let same : c.from_residual.result ≡ c.map_err.result = search rules in
     record {
-      numbers = found_at _ _ _ _ (search rules) c.loop-p.invariant.1 c.if-number-ne0.true
-          ((earned _ _ _ _ _ _ c.loop-p.invariant.2 c.named-first.ensures c.named-second.ensures c.closes-number.ensures).some c.if-number-ne0.true);
-      spells = λ e. absurd (c.if-number-ne0.true e);
+      passes = rw same (found_at _ (order_at pairs) _ p c.map_err.result m.below m.place c.loop-p.invariant.1 (search rules) at);
+      spells = λ o. absurd (search rules);
     }
 
 pub follow-requires : goal.follow-requires
 follow-requires c =
-    let h = held_both c.args.size _ c.requires.1 c.loop-p.p _ _ (search rules) c.named-first.ensures c.named-second.ensures in
-    (c.loop-p.invariant.2.long, c.requires.0, h.0, h.1, (λ y l t. omega (arith, (spells_held _ _ _ _ c.requires.1 c.loop-p.invariant.0 c.loop-p.invariant.2 _ y t).1)))
+    let pairs = c.args.pairs.now in
+    let p = c.in-Some.p in
+    let m : Met pairs c.loop-p.p-iterator c.next.new.self p c.in-Some.pair.now = pair_met _ _ _ _ c.in-Some.pair c.loop-p.invariant.0 (search rules) in
+    let h : (c.from-first.result.0 < c.args.size) × (c.from-second.result.0 < c.args.size) = held_both c.args.size _ c.requires.1 p _ _ m.below (rw c.from-first.ensures m.first) (rw c.from-second.ensures m.second) in
+    let s = c.loop-p.invariant.2 in
+    (s.long, c.requires.0, h.0, h.1, (λ y l t. omega (arith, (spells_held _ _ _ _ c.requires.1 c.loop-p.invariant.0.few s _ y t).1)))
 
 pub loop-p-preserved : goal.loop-p-preserved
 loop-p-preserved c =
-    let a = c.named-first.ensures in
-    let b = c.named-second.ensures in (
-      search rules,
-      below_more _ _ c.loop-p.invariant.1 ((earned _ _ _ _ _ _ c.loop-p.invariant.2 a b c.closes-number.ensures).none c.if-number-ne0.false),
-      spells_more _ _ _ _ c.loop-p.invariant.2 (rw (a, b) at c.follow.ensures),
-    )
+    let pairs = c.args.pairs.now in
+    let p = c.in-Some.p in
+    let m : Met pairs c.loop-p.p-iterator c.next.new.self p c.in-Some.pair.now = pair_met _ _ _ _ c.in-Some.pair c.loop-p.invariant.0 (search rules) in
+    let placed : c.map_err.result ≡ at_place p c.closes.result = search rules in
+    let at : Passes (order_at pairs p) c.map_err.result = rw placed (earned _ _ p _ _ _ (rw m.place c.loop-p.invariant.2) (rw c.from-first.ensures m.first) (rw c.from-second.ensures m.second) c.closes.ensures) in
+    let more : Spells pairs (p + 1) c.follow.new.rows = spells_more _ c.loop-p.rows _ p (rw m.place c.loop-p.invariant.2) (rw (c.from-first.ensures, m.first, c.from-second.ensures, m.second) at c.follow.ensures) in
+    (m.onward, rw m.counts (clear_more (order_at pairs) _ p c.map_err.result m.place c.loop-p.invariant.1 (search rules) at), rw (m.counts, ← m.place) more)

@@ -1,37 +1,43 @@
 use mathlib.Core.Logic.{inl, inr}
-use mathlib.Core.Path.{refl}
+use mathlib.Core.Path.{◌≡◌, refl}
+use Prim.Native.Nat.{◌<◌}
 use native.Mathlib.Omega.{arith}
+use borrow.Author.Rules.{rules}
+use lib.ListN.{length}
+use Rattle.std.specs.Prelude.{Err}
 use Rattle.refusal.specs.Table.{refused}
-use Rattle.planner.specs.List.{Uneven}
 use Rattle.planner.proofs.Pairs.{spells_none}
-use Rattle.planner.proofs.ListSound.{Sound, even_by, sound_counted, sound_judgeable}
-use Rattle.planner.proofs.HowLate.{ends_shortens}
+use Rattle.planner.proofs.ListSound.{even_by, checked_judgeable}
+use Rattle.planner.proofs.HowLate.{short_none, short_refused, short_begins, short_ends}
 use Rattle.planner.proofs.late.shortest.Goals as goal
 
 pub returns-then-uneven : goal.returns-then-uneven
-returns-then-uneven c = (omega arith, refused _ _ (inl (inl (c.uneven.ensures.yes c.if-uneven.true, refl, refl))) refl)
+returns-then-uneven c = rw c.into.ensures (refused _ _ (inl (inl (c.uneven.ensures.yes c.if-uneven.true, refl, refl))) refl)
 
-pub faulty-found-requires : goal.faulty-found-requires
-faulty-found-requires c =
-    let a = c.args in
-    (even_by a.starts.now a.deadlines.now a.pairs.now (c.uneven.ensures.no c.if-uneven.false), spells_none _)
+pub faulty-requires : goal.faulty-requires
+faulty-requires c = let a = c.args in (even_by a.starts.now a.deadlines.now a.pairs.now (c.uneven.ensures.no c.if-uneven.false), spells_none _)
 
-pub returns-then-found-ne0 : goal.returns-then-found-ne0
-returns-then-found-ne0 c =
-    let a = c.args in
-    let even : Uneven a.starts.now a.deadlines.now a.pairs.now → ⊥ = c.uneven.ensures.no c.if-uneven.false in
-    (omega (arith, c.if-found-ne0.true), refused _ _ (inl (inr (even, c.faulty-found.ensures.numbers.some c.if-found-ne0.true))) refl)
+pub returns-in_err-faulty : goal.returns-in_err-faulty
+returns-in_err-faulty c =
+    let e : c.from_residual.result ≡ Err c.in_err-faulty.field-0.0 = search rules in
+    rw e (refused _ _ (inl (inr (c.uneven.ensures.no c.if-uneven.false, rw c.in_err-faulty.was at c.faulty.ensures.passes))) refl)
 
-pub shorten-requires : goal.shorten-requires
-shorten-requires c =
-    let a = c.args in
-    let even : Uneven a.starts.now a.deadlines.now a.pairs.now → ⊥ = c.uneven.ensures.no c.if-uneven.false in
-    let sound : Sound a.starts.now a.deadlines.now a.pairs.now = sound_counted a.starts.now a.deadlines.now a.pairs.now even (c.faulty-found.ensures.numbers.none c.if-found-ne0.false) in
-    sound_judgeable _ _ _ _ sound (c.faulty-found.ensures.spells c.if-found-ne0.false)
+pub invariant_of-rows : goal.invariant_of-rows
+invariant_of-rows c = record { judgeable = checked_judgeable _ _ _ _ (c.uneven.ensures.no c.if-uneven.false) c.in_ok-faulty.ensures }
+
+pub returns-then-is_empty : goal.returns-then-is_empty
+returns-then-is_empty c =
+    let none : length c.args.starts.now ≡ 0 = search rules in
+    short_none _ _ _ _ (c.uneven.ensures.no c.if-uneven.false) c.in_ok-faulty.ensures none
+
+pub returns-then-not-leaves : goal.returns-then-not-leaves
+returns-then-not-leaves c =
+    rw c.into-then-not-leaves.ensures (short_refused _ _ _ _ (c.uneven.ensures.no c.if-uneven.false) c.in_ok-faulty.ensures (c.leaves.ensures.no c.if-not-leaves.true))
+
+pub least-requires : goal.least-requires
+least-requires c =
+    let some : 0 < length c.args.starts.now = search rules in
+    (omega arith, short_begins _ _ _ _ (c.uneven.ensures.no c.if-uneven.false) c.in_ok-faulty.ensures some (c.leaves.ensures.yes c.if-not-leaves.false))
 
 pub returns : goal.returns
-returns c =
-    let a = c.args in
-    let even : Uneven a.starts.now a.deadlines.now a.pairs.now → ⊥ = c.uneven.ensures.no c.if-uneven.false in
-    let sound : Sound a.starts.now a.deadlines.now a.pairs.now = sound_counted a.starts.now a.deadlines.now a.pairs.now even (c.faulty-found.ensures.numbers.none c.if-found-ne0.false) in
-    ends_shortens _ _ _ _ sound (c.faulty-found.ensures.spells c.if-found-ne0.false) even c.shorten.result c.shorten.ensures
+returns c = short_ends _ _ _ _ (c.uneven.ensures.no c.if-uneven.false) c.in_ok-faulty.ensures _ c.least.ensures.1

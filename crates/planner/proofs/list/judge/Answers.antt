@@ -1,43 +1,25 @@
 use mathlib.Core.Logic.{inl, inr, ⊎_elim}
 use mathlib.Core.Path.{refl}
-use native.Mathlib.Omega.{arith}
-use borrow.Author.Rules.{rules}
-use Rattle.planner.specs.List.{Misshapen, Uneven}
 use Rattle.refusal.specs.Table.{refused}
+use Rattle.planner.proofs.Outcome.{says_refused}
 use Rattle.planner.proofs.Pairs.{spells_none}
-use Rattle.planner.proofs.ListSound.{Sound, even_by, sound_counted, sound_judgeable, settles_says}
+use Rattle.planner.proofs.ListSound.{even_by, shape_by, checked_judgeable, checked_says}
 use Rattle.planner.proofs.list.judge.Goals as goal
 
 pub returns-then-uneven : goal.returns-then-uneven
-returns-then-uneven c = (omega arith, refused _ _ (inl (inl (inl (c.uneven.ensures.yes c.if-uneven.true), refl, refl))) refl)
+returns-then-uneven c =
+    rw c.into.ensures (refused _ _ (inl (inl (⊎_elim (λ e. inl (c.uneven.ensures.yes e)) (λ x. inr x.1) c.then-uneven.either, refl, refl))) refl)
 
-pub returns-then-latest-starts : goal.returns-then-latest-starts
-returns-then-latest-starts c = (omega arith, refused _ _ (inl (inl (inr c.if-latest-starts.true, refl, refl))) refl)
+pub faulty-requires : goal.faulty-requires
+faulty-requires c = (even_by _ _ _ (c.uneven.ensures.no c.if-uneven.false), spells_none _)
 
-pub faulty-found-requires : goal.faulty-found-requires
-faulty-found-requires c =
-    let a = c.args in
-    (even_by a.starts.now a.deadlines.now a.pairs.now (c.uneven.ensures.no c.if-uneven.false), spells_none _)
+pub returns-in_err-faulty : goal.returns-in_err-faulty
+returns-in_err-faulty c =
+    says_refused _ _ _ c.from_residual.ensures.1
+    (refused _ _ (inl (inr (shape_by _ _ _ _ (c.uneven.ensures.no c.if-uneven.false) c.if-latest-starts.false, c.in_err-faulty.ensures.passes))) refl)
 
-pub returns-then-found-ne0 : goal.returns-then-found-ne0
-returns-then-found-ne0 c =
-    let a = c.args in
-    let even : Uneven a.starts.now a.deadlines.now a.pairs.now → ⊥ = c.uneven.ensures.no c.if-uneven.false in
-    let shape : Misshapen a.starts.now a.deadlines.now a.pairs.now a.latest.now → ⊥ = λ m. ⊎_elim even (λ g. omega (arith, c.if-latest-starts.false)) m in
-    (omega (arith, c.if-found-ne0.true), refused _ _ (inl (inr (shape, c.faulty-found.ensures.numbers.some c.if-found-ne0.true))) refl)
-
-pub settle-requires : goal.settle-requires
-settle-requires c =
-    let a = c.args in
-    let even : Uneven a.starts.now a.deadlines.now a.pairs.now → ⊥ = c.uneven.ensures.no c.if-uneven.false in
-    let sound : Sound a.starts.now a.deadlines.now a.pairs.now = sound_counted a.starts.now a.deadlines.now a.pairs.now even (c.faulty-found.ensures.numbers.none c.if-found-ne0.false) in
-    (sound_judgeable _ _ _ _ sound (c.faulty-found.ensures.spells c.if-found-ne0.false), search rules)
+pub invariant_of-rows : goal.invariant_of-rows
+invariant_of-rows c = record { judgeable = checked_judgeable _ _ _ _ (c.uneven.ensures.no c.if-uneven.false) c.in_ok-faulty.ensures }
 
 pub returns : goal.returns
-returns c =
-    let a = c.args in
-    let even : Uneven a.starts.now a.deadlines.now a.pairs.now → ⊥ = c.uneven.ensures.no c.if-uneven.false in
-    let shape : Misshapen a.starts.now a.deadlines.now a.pairs.now a.latest.now → ⊥ = λ m. ⊎_elim even (λ g. omega (arith, c.if-latest-starts.false)) m in
-    let sound : Sound a.starts.now a.deadlines.now a.pairs.now = sound_counted a.starts.now a.deadlines.now a.pairs.now even (c.faulty-found.ensures.numbers.none c.if-found-ne0.false) in
-    settles_says a.starts.now a.deadlines.now a.pairs.now _ sound (c.faulty-found.ensures.spells c.if-found-ne0.false) a.latest.now _ c.settle.result
-    (shape, c.faulty-found.ensures.numbers.none c.if-found-ne0.false) c.settle.ensures
+returns c = checked_says _ _ _ _ (c.uneven.ensures.no c.if-uneven.false) c.in_ok-faulty.ensures _ _ c.settle.result c.if-latest-starts.false c.settle.ensures

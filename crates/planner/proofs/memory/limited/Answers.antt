@@ -1,19 +1,16 @@
-use native.Mathlib.Omega.{arith}
-use Rattle.planner.proofs.Whether.{whether_yes, whether_no}
-use Rattle.planner.proofs.IsBook.{limits_part, limits_at}
+use mathlib.Core.Path.{◌≡◌}
+use borrow.Author.Rules.{rules}
+use lib.ListN.{take, drop}
+use Rattle.planner.proofs.Whether.{whether_as}
+use Rattle.planner.proofs.IsBook.{limits_split, limits_beyond}
 use Rattle.planner.proofs.memory.limited.Goals as goal
-use Rattle.planner.proofs.memory.limited.Goals.{then-i-size, else-i-size}
 
-pub returns-then-times-from : goal.returns-then-times-from
-returns-then-times-from c =
-    whether_no
-    (λ x.
-    let k = limits_at _ _ _ _ x c.loop-i.i c.loop-i-test.true in
-    elim c.if-i-size.branch [
-      | then-i-size w ↦ omega (arith, k.0 w.if-i-size.true, w.most-is, c.if-times-from.true)
-      | else-i-size w ↦ omega (arith, k.1 w.if-i-size.false, w.most-is, c.if-times-from.true)
-    ])
-
-pub returns : goal.returns
-returns c =
-    whether_yes (limits_part _ _ _ _ c.requires.0 c.requires.1 (λ j l. c.loop-i.invariant.1 j (omega arith)))
+pub returns-then-at_most : goal.returns-then-at_most
+returns-then-at_most c =
+    let row = c.args.row.now in
+    let held : c.split_at.result.0.now ≡ take c.args.size row = search rules in
+    let beyond : c.split_at.result.1.now ≡ drop c.args.size row = search rules in
+    whether_as
+    (λ f. limits_split _ c.args.limit row c.requires.1 c.requires.0 (rw held at (c.at_most.ensures.yes c.if-at_most.true)) (rw beyond at f))
+    (λ x. rw beyond (limits_beyond _ c.args.limit row c.requires.1 c.requires.0 x))
+    c.at_most-then-at_most.ensures

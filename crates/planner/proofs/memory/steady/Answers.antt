@@ -1,33 +1,39 @@
-use mathlib.Core.Path.{◌≡◌, refl, sym, ap, ◌∙◌}
+use mathlib.Core.Path.{◌≡◌, sym, ap, ◌∙◌}
+use borrow.Author.Rules.{rules}
 use lib.ListN.{length}
-use Rattle.book.specs.Told.{cores, part}
+use Rattle.book.specs.Told.{cores, book_in}
+use Rattle.planner.specs.Memory.{Whether}
 use Rattle.planner.specs.Inner.Tighten.{Tightens}
-use Rattle.planner.proofs.HandedOver.{hands_all}
-use Rattle.planner.proofs.Whether.{whether_no, whether_as}
-use Rattle.planner.proofs.IsBook.{copied_ready, copied_tight, steady_yes, steady_same, steady_none}
+use Rattle.planner.proofs.Pending.{nothing_ready, nothing_tight}
+use Rattle.planner.proofs.Whether.{whether_no, whether_as, whether_same}
+use Rattle.planner.proofs.IsBook.{latest_long, regular_ready, steady_whether, steady_none}
 use Rattle.planner.proofs.memory.steady.Goals as goal
+
+pub copy_from_slice-requires : goal.copy_from_slice-requires
+copy_from_slice-requires c =
+    let long : length c.latest-latest.result.now ≡ 64 = ap length c.latest-latest.ensures ∙ latest_long _ _ c.told-times c.told-before c.requires in
+    search rules
 
 pub tighten-requires : goal.tighten-requires
 tighten-requires c =
-    let start : c.hand_over.new.row ≡ part 1 c.args.times.now = hands_all 64 _ _ _ (ap length c.starts.ensures ∙ c.requires.0) refl c.hand_over.ensures ∙ c.starts.ensures in
-    let due : c.hand_over-2.new.row ≡ part 65 c.args.times.now = hands_all 64 _ _ _ (ap length c.latest.ensures ∙ c.requires.2.long) refl c.hand_over-2.ensures ∙ c.latest.ensures in
-    copied_ready _ _ _ _ _ _ _ start due c.none.ensures c.requires.1 c.requires.2
+    let k = book_in c.args.times.now c.args.before.now in
+    let row : c.copy_from_slice.new.self ≡ k.latest = search rules in
+    let size : c.from-size.result ≡ k.size = search rules in
+    rw (size, c.starts.ensures, row) (nothing_ready _ _ _ _ _ c.none.ensures c.told-before (regular_ready _ _ c.told-times c.told-before c.requires))
 
 pub returns-then-tighten : goal.returns-then-tighten
 returns-then-tighten c =
-    let start : c.hand_over.new.row ≡ part 1 c.args.times.now = hands_all 64 _ _ _ (ap length c.starts.ensures ∙ c.requires.0) refl c.hand_over.ensures ∙ c.starts.ensures in
-    let due : c.hand_over-2.new.row ≡ part 65 c.args.times.now = hands_all 64 _ _ _ (ap length c.latest.ensures ∙ c.requires.2.long) refl c.hand_over-2.ensures ∙ c.latest.ensures in
-    let tight : Tightens cores c.args.size (part 1 c.args.times.now) c.args.before.now (part 65 c.args.times.now) c.tighten.new.row c.tighten.result =
-    copied_tight _ _ _ _ _ _ _ start due c.none.ensures c.requires.1 _ _ c.tighten.ensures in
-    whether_as
-    (λ e. steady_yes _ _ _ _ _ _ c.requires.2 tight c.if-tighten.true (sym c.latest-then-tighten.ensures ∙ e))
-    (λ x. c.latest-then-tighten.ensures ∙ steady_same _ _ _ _ _ _ c.requires.2 tight c.if-tighten.true x)
-    c.same.ensures
+    let k = book_in c.args.times.now c.args.before.now in
+    let row : c.copy_from_slice.new.self ≡ k.latest = search rules in
+    let size : c.from-size.result ≡ k.size = search rules in
+    let tight : Tightens cores k.size k.start k.before k.latest c.tighten.new.row c.tighten.result = nothing_tight _ _ _ _ _ _ _ _ c.none.ensures c.told-before (rw (size, c.starts.ensures, row) at c.tighten.ensures) in
+    let same : Whether (k.latest ≡ c.tighten.new.row) c.eq.result = rw (← c.as_slice.ensures, ← c.latest-latest.ensures) (whether_as sym sym (whether_same _ _ _ c.eq.ensures)) in
+    steady_whether _ _ c.told-times c.told-before c.requires _ _ tight c.if-tighten.true same
 
-pub returns : goal.returns
-returns c =
-    let start : c.hand_over.new.row ≡ part 1 c.args.times.now = hands_all 64 _ _ _ (ap length c.starts.ensures ∙ c.requires.0) refl c.hand_over.ensures ∙ c.starts.ensures in
-    let due : c.hand_over-2.new.row ≡ part 65 c.args.times.now = hands_all 64 _ _ _ (ap length c.latest.ensures ∙ c.requires.2.long) refl c.hand_over-2.ensures ∙ c.latest.ensures in
-    let tight : Tightens cores c.args.size (part 1 c.args.times.now) c.args.before.now (part 65 c.args.times.now) c.tighten.new.row c.tighten.result =
-    copied_tight _ _ _ _ _ _ _ start due c.none.ensures c.requires.1 _ _ c.tighten.ensures in
-    whether_no (steady_none _ _ _ _ _ _ c.requires.2 tight c.if-tighten.false)
+pub returns-else-tighten : goal.returns-else-tighten
+returns-else-tighten c =
+    let k = book_in c.args.times.now c.args.before.now in
+    let row : c.copy_from_slice.new.self ≡ k.latest = search rules in
+    let size : c.from-size.result ≡ k.size = search rules in
+    let tight : Tightens cores k.size k.start k.before k.latest c.tighten.new.row c.tighten.result = nothing_tight _ _ _ _ _ _ _ _ c.none.ensures c.told-before (rw (size, c.starts.ensures, row) at c.tighten.ensures) in
+    rw c.if-tighten.false (whether_no (steady_none _ _ c.told-times c.told-before c.requires _ _ tight c.if-tighten.false))

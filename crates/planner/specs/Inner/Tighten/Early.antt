@@ -1,6 +1,6 @@
 -- Earliest times, job by job.
 -- Assumes nothing.
-use Rattle.std.specs.Prelude.{List, ◌⊎◌, ◌≡◌, ℕ, ◌+◌, ◌≤◌, ◌<◌, T, length, get_or}
+use Rattle.std.specs.Prelude.{List, ◌⊎◌, ◌≡◌, ℕ, ◌+◌, ◌≤◌, ◌<◌, T, All, length, get_or, take}
 use Rattle.schedule.specs.Jobs.{Closed, Loopless}
 use Rattle.schedule.specs.Times.{Earliest}
 use Rattle.sets.specs.Sets.{has}
@@ -30,4 +30,4 @@ pub record Startable (size : ℕ) (start before : List ℕ) : Type 0 where
 pub record Begins (size : ℕ) (start before early order : List ℕ) : Type 0 where
   pub earliest : Earliest (jobs_in size start before) (row_in early)
   pub low : (i : ℕ) → i < size → get_or early i 0 < 65535
-  pub jobs : (k : ℕ) → k < size → get_or order k 0 < size
+  pub jobs : All (λ job. job < size) (take size order)

@@ -1,10 +1,12 @@
 -- The rule for one job and one d.
 -- Assumes nothing.
-use Rattle.std.specs.Prelude.{Bool, not, ◌&&◌, ◌||◌, List, ◌⊎◌, ◌≡◌, ℕ, ◌+◌, ◌≤◌, ◌<◌, eqb, leb, ltb, get_or}
+use Rattle.std.specs.Prelude.{Bool, not, ◌&&◌, ◌||◌, ◌⊎◌, ◌≡◌, ℕ, ◌+◌, ◌≤◌, ◌<◌, eqb, leb, ltb}
 use Rattle.schedule.specs.Jobs.{Jobs}
 use Rattle.schedule.specs.Times.{N, Within, Full, Breach}
 use Rattle.sets.specs.Sets.{has}
-use Rattle.planner.specs.Inner.Tighten.Tables.{Levels}
+use Rattle.planner.specs.declared.tighten.Due.{Due}
+use Rattle.planner.specs.declared.tighten.tables.Tables.{Tables}
+use Rattle.planner.specs.Inner.Tighten.Known.{Known}
 use Rattle.planner.specs.Inner.Tighten.Sink.{Eased}
 
 -- job j is due, and (follows job i or starts late), and is not i (01, Code places: "count_ones of the due set and (followers or late starters), without job i")
@@ -15,14 +17,12 @@ pressed due followers late i j = (has due j && (has followers j || has late j)) 
 abbrev pub DueBy : ℕ → (ℕ → ℕ) → ℕ → ℕ → Type 0
 DueBy size row d due = (j : ℕ) → has due j ≡ (ltb j size && leb (row j) d)
 
--- job i with its time held, at d
-pub record At (J : Jobs) (early row : ℕ → ℕ) (i held d due followers from : ℕ) (times late : List ℕ) : Type 0 where
-  pub levels : Levels J.size early times late
+-- job i with its time held, among the jobs that are due by d
+pub record At (J : Jobs) (early row : ℕ → ℕ) (i held : ℕ) (due : Due) (t : Tables) : Type 0 where
+  pub known : Known J early t
   pub job : i < J.size
-  pub begins : get_or times from 0 ≡ early i
   pub holds : row i ≡ held
-  pub soon : DueBy J.size row d due
-  pub follow : (j : ℕ) → has followers j ≡ (ltb j J.size && J.before i j)
+  pub soon : DueBy J.size row due.d due.jobs
 
 -- n is N at some s at which the rule speaks, or 0; and N is no more at any s tried
 pub record Pressure (m : ℕ) (J : Jobs) (early row : ℕ → ℕ) (i d n : ℕ) : Type 0 where
@@ -39,4 +39,4 @@ pub record Obeys (m : ℕ) (J : Jobs) (early row : ℕ → ℕ) (i d : ℕ) : Ty
 -- what the rule leaves job i at d
 pub record Ruled (m : ℕ) (J : Jobs) (early row : ℕ → ℕ) (i d time : ℕ) : Type 0 where
   pub eased : Eased m J early row i time
-  pub obeys : (time ≡ 0 → ⊥) → time ≡ row i → Obeys m J early row i d
+  pub obeys : time ≡ row i → Obeys m J early row i d

@@ -1,30 +1,18 @@
 use mathlib.Core.List.{◌++◌}
-use mathlib.Core.Path.{refl, sym, ap, ◌∙◌}
-use Prim.Native.Nat.{◌≤◌}
-use native.Mathlib.Omega.{arith}
-use lib.ListN.{length}
+use mathlib.Core.Path.{refl}
+use mir.Facts.{to_z-of_z}
 use Rattle.refusal.specs.Says.{number_of, value_of}
-use Rattle.text.specs.Put.{Puts}
-use Rattle.text.proofs.Putting.{puts_as, puts_then}
+use Rattle.text.proofs.Putting.{adds_then}
 use Rattle.verdict.specs.Line.{late_line, short_line}
-use Rattle.verdict.proofs.Signed.{plain_is}
-use Rattle.verdict.proofs.Texts.{writes_by, short_some, short_none, accepted_short}
+use Rattle.verdict.proofs.Texts.{accepted_short}
 use Rattle.verdict.proofs.lines.accepted.Goals as goal
-
-pub returns-then-number-eq0 : goal.returns-then-number-eq0
-returns-then-number-eq0 c =
-    let a = c.args in
-    let text = late_line a.jobs a.slots ++ short_line (number_of a.short) (value_of a.short) in
-    let fits : length text ≤ 80 = accepted_short a.jobs a.slots (number_of a.short) (value_of a.short) c.ranges.jobs.fits c.ranges.slots.sfits (omega (arith, c.value.type_inv, c.value.ensures)) in
-    let late : Puts (late_line a.jobs a.slots) 0 a.out.now c.late-next.new.out c.late-next.result = puts_as (ap (late_line a.jobs) (plain_is a.slots c.ranges.slots)) refl c.late-next.ensures in
-    let short = short_some (number_of a.short) (value_of a.short) c.value.result (sym c.number.ensures ∙ c.if-number-eq0.true) c.value.ensures in
-    writes_by text _ _ _ refl (omega arith) (puts_then late (puts_as short refl c.fill.ensures))
 
 pub returns : goal.returns
 returns c =
     let a = c.args in
-    let text = late_line a.jobs a.slots ++ short_line (number_of a.short) (value_of a.short) in
-    let fits : length text ≤ 80 = accepted_short a.jobs a.slots (number_of a.short) (value_of a.short) c.ranges.jobs.fits c.ranges.slots.sfits (omega (arith, c.value.type_inv, c.value.ensures)) in
-    let late : Puts (late_line a.jobs a.slots) 0 a.out.now c.late-next.new.out c.late-next.result = puts_as (ap (late_line a.jobs) (plain_is a.slots c.ranges.slots)) refl c.late-next.ensures in
-    let short = short_none (number_of a.short) (value_of a.short) (λ e. c.if-number-eq0.false (c.number.ensures ∙ e)) in
-    writes_by text _ _ _ refl (omega arith) (puts_then late (puts_as short refl c.fill-2.ensures))
+    record {
+      text = late_line a.jobs a.slots ++ short_line (number_of a.answer) (value_of a.answer);
+      kind = refl;
+      short = accepted_short a.jobs a.slots _ _ c.ranges.jobs.fits c.ranges.slots.sfits c.short.ensures.few;
+      adds = adds_then (rw (to_z-of_z c.ranges.slots) at c.late.ensures) c.short.ensures.adds;
+    }

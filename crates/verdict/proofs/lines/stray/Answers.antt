@@ -1,9 +1,9 @@
 use mathlib.Core.Path.{refl}
-use native.Mathlib.Omega.{arith}
 use Rattle.report.specs.Line.{refused_line}
-use Rattle.verdict.proofs.Texts.{writes_by, refused_short}
+use Rattle.verdict.proofs.Texts.{refused_short}
 use Rattle.verdict.proofs.lines.stray.Goals as goal
 
 pub returns : goal.returns
 returns c =
-    writes_by (refused_line c.args.place 5) _ _ _ refl (omega (arith, refused_short c.args.place c.ranges.place.fits)) c.refused.ensures
+    let a = c.args in
+    record { text = refused_line a.place 5; kind = refl; short = refused_short a.place c.ranges.place.fits; adds = rw c.number.ensures at c.refused.ensures }

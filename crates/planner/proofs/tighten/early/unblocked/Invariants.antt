@@ -2,14 +2,10 @@
 use Prim.Native.Nat.{ℕ}
 use lib.Dec.{T}
 use lib.ListN.{get_or}
-use Rattle.schedule.specs.Count.{count}
 use Rattle.sets.specs.Sets.{has}
 use Rattle.planner.specs.Inner.Chains.{joined_rows}
 use Rattle.planner.specs.Inner.Tighten.Early.{Unblocked}
 use Rattle.planner.proofs.tighten.early.unblocked.Given as goal
 
-abbrev pub invariant-loop-pending : goal.invariant-loop-pending
-invariant-loop-pending l = ((j : ℕ) → T (has l.rest j) → T (has l.todo j)) × ((f : ℕ) × T (has l.rest f) × Unblocked f (get_or (joined_rows l.before l.pending) f 0) l.todo)
-
-abbrev pub decreases-loop-pending : goal.decreases-loop-pending
-decreases-loop-pending l = count 64 (has l.rest)
+abbrev pub invariant-loop-job : goal.invariant-loop-job
+invariant-loop-job l = ((j : ℕ) → T (has l.job-iterator.0 j) → T (has l.todo j)) × ((f : ℕ) × T (has l.job-iterator.0 f) × Unblocked f (get_or (joined_rows l.before l.pending) f 0) l.todo)
