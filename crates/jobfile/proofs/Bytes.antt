@@ -1,4 +1,4 @@
--- The bytes of records one after the other, gathered number by number, and stored on from an offset.
+-- The bytes of records one after the other, gathered number by number, and written on.
 -- Assumes nothing.
 use mathlib.Core.Bool.{true, false}
 use mathlib.Core.List.{List, [], ◌∷◌, ◌++◌, append_assoc, append-nil}
@@ -13,12 +13,13 @@ use lib.Seq.{sets, length-sets}
 use Rattle.schedule.proofs.Tests.{le_or_lt}
 use Rattle.records.specs.declared.Record.{Record}
 use Rattle.records.specs.declared.Record.TheVariants.{Order}
-use Rattle.records.specs.Record.{bytes_of, length_of}
+use Rattle.records.specs.Record.{bytes_of}
 use Rattle.records.proofs.Standing.{bytes_length, length_six}
 use Rattle.records.proofs.Stored.{sets_append}
 use Rattle.sets.specs.Sets.{has}
+use Rattle.jobfile.specs.declared.writer.Written.{Written}
 use Rattle.jobfile.specs.Writer.{gather, bytes_of_all, order_record}
-use Rattle.jobfile.specs.Inner.Writer.{Continues}
+use Rattle.jobfile.specs.Inner.Writer.{HasRoom, Continues}
 
 pub all_append : (xs ys : List Record) → bytes_of_all (xs ++ ys) ≡ bytes_of_all xs ++ bytes_of_all ys
 unfolding bytes_of_all
@@ -54,15 +55,24 @@ module _ {A : Type 0} (f : ℕ → List A) where
       (λ lt. omega (arith, gather_longer n m (omega arith), length-append (gather m f) (f m)))
       (le_or_lt (suc m) n)
 
--- ---- storing on from an offset
-pub continues_length : (at : ℕ) (bytes old new : List ℕ) (r : ℕ) → Continues at bytes old new r → length new ≡ length old
-continues_length at bytes old new r c = rw c.stored (length-sets old at bytes)
+-- ---- writing on
+pub continues_length : {bytes : List ℕ} {a b : Written} → Continues bytes a b → length b.out.now ≡ length a.out.now
+continues_length {bytes} {a} c = ap length c.stored ∙ length-sets a.out.now a.at bytes
 
-module _ (f : ℕ → List Record) (at : ℕ) (old : List ℕ) where
-  pub continues_none : Continues at (bytes_of_all (gather 0 f)) old old at
-  unfolding gather bytes_of_all
-  continues_none = record { stored = refl; next = sym (add-zero at) }
+-- none more, and more behind it
+pub continues_none : (a : Written) → Continues (bytes_of_all []) a a
+unfolding bytes_of_all
+continues_none a = record { stored = refl; next = sym (add-zero a.at); lent = refl }
 
+pub continues_then : {xs ys : List ℕ} {a b c : Written} → Continues xs a b → Continues ys b c → Continues (xs ++ ys) a c
+continues_then {xs} {ys} {a} p q = record {
+  stored = q.stored ∙ ap₂ (λ l n. sets l n ys) p.stored p.next ∙ sets_append xs ys a.out.now a.at;
+  next = omega (arith, p.next, q.next, length-append xs ys);
+  lent = q.lent ∙ p.lent;
+}
+
+-- ---- record by record: a loop that puts the records of 0, 1, 2..
+module _ (f : ℕ → List Record) where
   all_more : (i : ℕ) → bytes_of_all (gather (i + 1) f) ≡ bytes_of_all (gather i f) ++ bytes_of_all (f i)
   all_more i = ap bytes_of_all (gather_more f i) ∙ all_append (gather i f) (f i)
 
@@ -71,30 +81,18 @@ module _ (f : ℕ → List Record) (at : ℕ) (old : List ℕ) where
   all_gather zero = refl
   all_gather (suc n) = all_append (gather n f) (f n) ∙ ap (λ (l : List ℕ). l ++ bytes_of_all (f n)) (all_gather n)
 
-  pub continues_more : (i next r : ℕ) (mid new : List ℕ) → Continues at (bytes_of_all (gather i f)) old mid next → Continues next (bytes_of_all (f i)) mid new r →
-      Continues at (bytes_of_all (gather (i + 1) f)) old new r
-  continues_more i next r mid new c d = record {
-    stored = d.stored ∙ ap (λ (l : List ℕ). sets l next (bytes_of_all (f i))) c.stored
-        ∙ ap (λ (n : ℕ). sets (sets old at (bytes_of_all (gather i f))) n (bytes_of_all (f i))) c.next
-        ∙ sets_append (bytes_of_all (gather i f)) (bytes_of_all (f i)) old at ∙ ap (sets old at) (sym (all_more i));
-    next = let e = ap length (all_more i) ∙ length-append (bytes_of_all (gather i f)) (bytes_of_all (f i)) in omega (arith, c.next, d.next, e);
-  }
+  pub each_none : (a : Written) → Continues (bytes_of_all (gather 0 f)) a a
+  unfolding gather
+  each_none a = continues_none a
+
+  pub each_next : (i : ℕ) {a b c : Written} → Continues (bytes_of_all (gather i f)) a b → Continues (bytes_of_all (f i)) b c → Continues (bytes_of_all (gather (i + 1) f)) a c
+  each_next i p q = rw (all_more i) (continues_then p q)
 
   -- there is room for the next where there is for all
-  pub continues_room : (i n next : ℕ) (mid : List ℕ) → i < n → at + length (bytes_of_all (gather n f)) ≤ length old → Continues at (bytes_of_all (gather i f)) old mid next →
-      next + length (bytes_of_all (f i)) ≤ length mid
-  continues_room i n next mid l h c =
+  pub each_room : (i n : ℕ) {a b : Written} → i < n → HasRoom (bytes_of_all (gather n f)) a → Continues (bytes_of_all (gather i f)) a b → HasRoom (bytes_of_all (f i)) b
+  each_room i n l h c =
       let e = ap length (all_more i) ∙ length-append (bytes_of_all (gather i f)) (bytes_of_all (f i)) in
-      omega (arith, continues_length at _ old mid next c, c.next, e, ap length (all_gather (i + 1)), ap length (all_gather n), gather_longer (λ j. bytes_of_all (f j)) (i + 1) n (omega arith))
-
--- nothing stored
-pub continues_still : {old new : List ℕ} {at r : ℕ} → new ≡ old → r ≡ at → Continues at (bytes_of_all []) old new r
-unfolding bytes_of_all
-continues_still {at = at} e f = record { stored = e; next = f ∙ sym (add-zero at) }
-
--- for one record
-pub room_one : (r : Record) (next m : ℕ) → next + length (bytes_of_all (r ∷ [])) ≤ m → next + length_of r ≤ m
-room_one r next m h = omega (arith, bytes_length r, ap length (all_one r))
+      omega (arith, h, continues_length c, c.next, e, ap length (all_gather (i + 1)), ap length (all_gather n), gather_longer (λ j. bytes_of_all (f j)) (i + 1) n (omega arith))
 
 -- ---- an order, where there is one
 module _ (before : List ℕ) (a b : ℕ) where

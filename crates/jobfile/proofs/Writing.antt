@@ -16,11 +16,11 @@ use Rattle.refusal.specs.Table.{refused, passed}
 use Rattle.refusal.proofs.Says.{says_told, says_only}
 use Rattle.refusal.proofs.Table.{table_one, table_free, table_past}
 use Rattle.records.specs.declared.Record.TheVariants.{Job, Order}
-use Rattle.records.proofs.Stored.{sets_append}
 use Rattle.sets.specs.Sets.{has}
+use Rattle.jobfile.specs.declared.writer.Written.{Written}
 use Rattle.jobfile.specs.Writer.{gather, bytes_of_all, job_record, follower_records, records_of, file_of, Output, output, WritesBook, Enough}
 use Rattle.jobfile.specs.Inner.Writer.{pairs_in, jobs_bytes, orders_bytes, Continues}
-use Rattle.jobfile.proofs.Bytes.{all_append, gather_same}
+use Rattle.jobfile.proofs.Bytes.{all_append, gather_same, continues_then}
 use Rattle.jobfile.proofs.Length.{pairs_taken, pairs_few, file_length, file_short}
 
 -- ---- the first entries of rows alone
@@ -49,19 +49,18 @@ module _ (k : Book) where
   pub file_both : length (file_of k) ≡ length jobs_part + length orders_part
   file_both = ap length file_parts ∙ length-append jobs_part orders_part
 
-  module _ (old : List ℕ) (n : ℕ) (e : n ≡ length (file_of k)) where
-    pub short_writes : length old < n → WritesBook k old old 8 n
-    short_writes h = record { outcome = refused 8 n (omega arith, refl, e) refl }
+  pub short_writes : (old : List ℕ) (n : ℕ) → n ≡ length (file_of k) → length old < n → WritesBook k old old 8 n
+  short_writes old n e h = record { outcome = refused 8 n (omega arith, refl, e) refl }
 
-    -- jobs stored, and then orders, are the whole file stored
-    pub long_writes : (mid new : List ℕ) (at : ℕ) → n ≤ length old → Continues 0 jobs_part old mid at → new ≡ sets mid at orders_part → WritesBook k old new 0 n
-    long_writes mid new at h c x = record { outcome = passed (λ f. omega arith) (λ i. output (stored i) 0 (e i)) }
-      where
-        stored : new ≡ file_of k ++ drop (length (file_of k)) old
-        stored =
-            x ∙ ap (λ (l : List ℕ). sets l at orders_part) c.stored ∙ ap (λ (m : ℕ). sets (sets old 0 jobs_part) m orders_part) c.next
-            ∙ sets_append jobs_part orders_part old 0 ∙ ap (sets old 0) (sym file_parts)
-            ∙ sets-eq (file_of k) old 0 (omega (arith, zero-add (length (file_of k)))) ∙ ap (λ (m : ℕ). file_of k ++ drop m old) (zero-add (length (file_of k)))
+  -- jobs written, and then orders, are the whole file written
+  pub long_writes : {from mid to : Written} (new : List ℕ) (n : ℕ) → n ≡ length (file_of k) → n ≤ length from.out.now → from.at ≡ 0 → Continues jobs_part from mid → Continues orders_part mid to →
+      new ≡ to.out.now → WritesBook k from.out.now new 0 n
+  long_writes {from} new n e h start p q x = record { outcome = passed (λ f. omega arith) (λ i. output (stored i) 0 (e i)) }
+    where
+      stored : new ≡ file_of k ++ drop (length (file_of k)) from.out.now
+      stored =
+          x ∙ (continues_then p q).stored ∙ ap₂ (λ l m. sets from.out.now m l) (sym file_parts) start
+          ∙ sets-eq (file_of k) from.out.now 0 (omega (arith, zero-add (length (file_of k)))) ∙ ap (λ (m : ℕ). file_of k ++ drop m from.out.now) (zero-add (length (file_of k)))
 
   -- ---- one outcome
   pub writes_only : (old new other : List ℕ) (n v m w : ℕ) → WritesBook k old new n v → WritesBook k old other m w → output new n v ≡ output other m w

@@ -25,7 +25,7 @@ pub fn read(times: &mut Times, before: &mut Before, file: &[u8], at: &mut usize)
     Ok(Some(planner::apply(times, before, asked(told))))
 }
 
-// The request that a record asks.
+// The request that a record asks; no From, which would stand in records or in the planner, and neither knows the other.
 fn asked(told: Record) -> Request
     ensures { result ≡ asks told }
 {

@@ -1,11 +1,10 @@
 // A book written out as a job file.
-ghost use Rattle.std.specs.Prelude.{◌≡◌, ◌+◌, ◌≤◌, ◌<◌, length};
-ghost use Rattle.std.proofs.lemmas.List.Edits.{sets};
+ghost use Rattle.std.specs.Prelude.{◌≡◌, ◌≤◌, ◌<◌, length};
 ghost use Rattle.refusal.specs.Says.{Says};
-ghost use Rattle.records.specs.Record.{bytes_of, length_of};
+ghost use Rattle.records.specs.Record.{bytes_of};
 ghost use Rattle.book.specs.Told.{Made, book_in};
 ghost use Rattle.jobfile.specs.Writer.{WritesBook};
-ghost use Rattle.jobfile.specs.Inner.Writer.{pairs_in, jobs_bytes, orders_bytes, followers_bytes, Continues};
+ghost use Rattle.jobfile.specs.Inner.Writer.{pairs_in, jobs_bytes, orders_bytes, followers_bytes, HasRoom, Continues};
 
 use book::{Before, Times};
 use records::Record;
@@ -28,8 +27,9 @@ pub fn write(times: &Times, before: &Before, out: &mut [u8]) -> Answer
             value: needed,
         });
     }
-    let at = put_jobs(starts, latest, out);
-    put_orders(before, out, at);
+    let mut file = Written { out, at: 0 };
+    file.put_jobs(starts, latest);
+    file.put_orders(before);
     Ok(needed)
 }
 
@@ -41,51 +41,55 @@ fn pairs(before: &[u64]) -> usize
     before.iter().map(|&set| sets::size(set)).sum()
 }
 
-// Every job's record from the first byte on, and the offset past them.
-fn put_jobs<'a>(starts: &'a [u16], latest: &'a [u16], out: &mut [u8]) -> usize
-    requires { (length starts.now ≡ length latest.now) × (length (jobs_bytes starts.now latest.now) ≤ length out.old) }
-    ensures { Continues 0 (jobs_bytes starts.now latest.now) out.old out.new result }
-{
-    let mut next = 0;
-    for (&start, &latest) in starts.iter().zip(latest) {
-        next = put(out, next, Record::Job(start, latest));
-    }
-    next
+// Lent bytes, and the offset that the next record is stored at.
+#[derive(Drop)]
+struct Written<'a> {
+    out: &'a mut [u8],
+    at: usize,
 }
 
-// Every pair's record, by the first job.
-fn put_orders(before: &[u64], out: &mut [u8], at: usize)
-    requires { (length before.now ≤ 64) × (at + length (orders_bytes before.now) ≤ length out.old) }
-    ensures { out.new ≡ sets out.old at (orders_bytes before.now) }
-{
-    let mut next = at;
-    // a is a job, whose own row is not read
-    for a in 0..before.len() {
-        next = put_followers(before, JobIndex(a), out, next);
-    }
-}
-
-// One job's pairs, by the second job, and the offset past them.
-fn put_followers(before: &[u64], job: JobIndex, out: &mut [u8], at: usize) -> usize
-    requires { (length before.now ≤ 64) × (job.0 < length before.now) × (at + length (followers_bytes before.now job.0) ≤ length out.old) }
-    ensures { Continues at (followers_bytes before.now job.0) out.old out.new result }
-{
-    let first = job.0 as u16;
-    let mut next = at;
-    for (b, &preceding) in before.iter().enumerate() {
-        if sets::has(preceding, job) {
-            let second = b as u16;
-            next = put(out, next, Record::Order(first, second));
+impl Written<'_> {
+    // Every job's record.
+    fn put_jobs(&mut self, starts: &[u16], latest: &[u16])
+        requires { (length starts.now ≡ length latest.now) × HasRoom (jobs_bytes starts.now latest.now) self.old }
+        ensures { Continues (jobs_bytes starts.now latest.now) self.old self.new }
+    {
+        for (&start, &latest) in starts.iter().zip(latest) {
+            self.put(Record::Job(start, latest));
         }
     }
-    next
-}
 
-// One record, and the offset past it.
-fn put(out: &mut [u8], at: usize, told: Record) -> usize
-    requires { at + length_of told ≤ length out.old }
-    ensures { Continues at (bytes_of told) out.old out.new result }
-{
-    records::store(out, at, told);
-    at + records::length_of(told)
+    // Every pair's record, by the first job.
+    fn put_orders(&mut self, before: &[u64])
+        requires { (length before.now ≤ 64) × HasRoom (orders_bytes before.now) self.old }
+        ensures { Continues (orders_bytes before.now) self.old self.new }
+    {
+        // a is a job, whose own row is not read
+        for a in 0..before.len() {
+            self.put_followers(before, JobIndex(a));
+        }
+    }
+
+    // One job's pairs, by the second job.
+    fn put_followers(&mut self, before: &[u64], job: JobIndex)
+        requires { (length before.now ≤ 64) × (job.0 < length before.now) × HasRoom (followers_bytes before.now job.0) self.old }
+        ensures { Continues (followers_bytes before.now job.0) self.old self.new }
+    {
+        let first = job.0 as u16;
+        for (b, &preceding) in before.iter().enumerate() {
+            if sets::has(preceding, job) {
+                let second = b as u16;
+                self.put(Record::Order(first, second));
+            }
+        }
+    }
+
+    // One record.
+    fn put(&mut self, told: Record)
+        requires { HasRoom (bytes_of told) self.old }
+        ensures { Continues (bytes_of told) self.old self.new }
+    {
+        records::store(self.out, self.at, told);
+        self.at += records::length_of(told);
+    }
 }

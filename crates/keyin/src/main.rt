@@ -24,7 +24,10 @@ fn main(rt: HostRuntime) {
 }
 
 fn tell(rt: &HostRuntime, text: &[u8], mistake: Mistake) {
-    let _ = eprint!(rt; "{mistake}");
+    let _ = eprint!(rt;
+        "line {}, entry {}: {}",
+        mistake.line, mistake.entry, mistake.slip
+    );
     if mistake.size > 0 {
         quote(rt, text, mistake.start, mistake.size);
     }

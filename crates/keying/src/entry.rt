@@ -1,5 +1,6 @@
 // An entry of a keyed text, word by word: each word is judged where it ends.
-ghost use Rattle.std.specs.Prelude.{◌≡◌};
+ghost use Rattle.std.specs.Prelude.{◌≡◌, Some};
+ghost use Rattle.keying.specs.Slip.{slip_text};
 ghost use Rattle.keying.specs.Text.{set_first, set_second};
 ghost use Rattle.keying.specs.Inner.Machine.{first_by, entry_with};
 
@@ -20,6 +21,8 @@ pub enum Slip {
 }
 
 impl fmt::Display for Slip {
+    ghost output = { λ slip. Some (slip_text slip) };
+
     fn fmt<W: fmt::Write>(&self, f: &mut fmt::Formatter<W>) -> fmt::Result {
         f.write_str(match self {
             Slip::UnknownWord => "unknown word",

@@ -7,7 +7,6 @@ ghost use Rattle.keying.specs.Inner.Walk.{Walks, mistake_at};
 use crate::entry::Slip;
 use crate::reader::Reader;
 use records::Record;
-use std::fmt;
 
 const FILE_LENGTH: usize = 24576;
 
@@ -21,12 +20,6 @@ pub struct Mistake {
     // where the word that is wrong stands in the text, and its size: 0 where no word is, which `Says` (specs/Keys) promises as a number
     pub start: usize,
     pub size: usize,
-}
-
-impl fmt::Display for Mistake {
-    fn fmt<W: fmt::Write>(&self, f: &mut fmt::Formatter<W>) -> fmt::Result {
-        write!(f, "line {}, entry {}: {}", self.line, self.entry, self.slip)
-    }
 }
 
 impl Mistake {
@@ -65,6 +58,7 @@ fn walk<F: FnMut(usize, Record)>(text: &[u8], put: &mut F) -> Result<usize, Mist
 {
     let mut reader = Reader::fresh(1, 1);
     let mut at = 0;
+    // i runs one past the text, where its last line ends
     for i in begin(text)..=text.len() {
         let (next, told) = match reader.take(byte_at(text, i)) {
             Ok(turn) => turn,

@@ -13,5 +13,5 @@ impl Program<80> for Late {
 }
 
 fn main(rt: HostRuntime) {
-    stream::run::<80, Late>(&rt);
+    stream::run::<80, Late>(&rt, &mut [0u8; 80]);
 }

@@ -13,5 +13,5 @@ impl Program<196608> for Listing {
 }
 
 fn main(rt: HostRuntime) {
-    stream::run::<196608, Listing>(&rt);
+    stream::run::<196608, Listing>(&rt, &mut [0u8; 196608]);
 }

@@ -14,7 +14,7 @@ pub fn write(out: &mut [u8], size: usize, laid: &Layout)
 {
     for (i, &slot) in laid.slot[..size].iter().enumerate() {
         let job = JobIndex(i);
-        seat(out, SlotTime(usize::from(slot)), laid.core_of(job), job);
+        seat(out, SlotTime::from(slot), laid.core_of(job), job);
     }
 }
 

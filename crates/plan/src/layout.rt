@@ -29,7 +29,7 @@ impl Layout {
         requires { job.0 < 64 }
         ensures { result.0 ≡ get_or self.now.slot job.0 0 }
     {
-        SlotTime(usize::from(self.slot[job.0]))
+        SlotTime::from(self.slot[job.0])
     }
 
     pub fn core_of(&self, job: JobIndex) -> CoreIndex

@@ -22,7 +22,7 @@ use refusal::{Answer, Reason, Refusal};
 use rows::Rows;
 use schedule::{JobIndex, SlotTime};
 
-// Two bytes a slot, core 0 first, 255 for an idle core, from slot 0 to the finishing time. The parts of a book stay apart in the public calls: the C interface lends them so.
+// Two bytes a slot, core 0 first, 255 for an idle core as C reads it, from slot 0 to the finishing time. The parts of a book stay apart in the public calls: the C interface lends them so.
 pub fn plan(times: &Times, before: &Before, out: &mut [u8]) -> Answer
     requires { Made (book_in times.now before.now) }
     ensures { Says result (Plans (book_in times.now before.now) out.old out.new) }

@@ -26,7 +26,8 @@ use Rattle.refusal.specs.Table.{Clear, Table, refused, passed}
 use Rattle.planner.specs.Requests.{held_checks, loop_checks, plan_check, Applied, answered, Turned, Grown}
 use Rattle.book.proofs.Parts.{with_latest}
 use Rattle.planner.specs.Inner.Chains.{Links}
-use Rattle.planner.specs.Inner.Tighten.{Tightenable, Tightens}
+use Rattle.planner.specs.Inner.Tighten.{Tightens}
+use Rattle.planner.specs.Inner.Tighten.Early.{Startable}
 use Rattle.schedule.proofs.Readings.{plan_one}
 use Rattle.planner.proofs.Orders.{held_clear, loop_clear}
 
@@ -53,12 +54,11 @@ pub record Grows (L : Listed) (grown : Book) : Type 0 where
   pub onward : Onward 2 L (jobs_of grown) (latest_of grown)
 
 -- its rows may be tightened
-pub grows_ready : (L : Listed) (grown : Book) → Grows L grown → Tightenable grown.size grown.start grown.before grown.latest
+pub grows_ready : (L : Listed) (grown : Book) → Grows L grown → Startable grown.size grown.start grown.before
 grows_ready L grown g = record {
   few = g.shaped.few;
-  long = g.shaped.latests;
-  starts = omega (arith, g.shaped.few, g.shaped.starts);
-  early = λ i l. omega (arith, g.onward.reads.start i l, g.limited.start i (omega (arith, g.onward.reads.size)));
+  long = omega (arith, g.shaped.few, g.shaped.starts);
+  starts = λ i l. omega (arith, g.onward.reads.start i l, g.limited.start i (omega (arith, g.onward.reads.size)));
   closed = reads_closed L (jobs_of grown) g.onward.reads;
   loopless = reads_loopless L (jobs_of grown) g.onward.reads g.onward.loopless;
   inside = g.shaped.before_rest;

@@ -16,19 +16,19 @@ use Rattle.schedule.specs.Theory.Lowest.{Narrowed}
 use Rattle.schedule.proofs.Lowest.{narrow_up, rising_stays}
 use Rattle.book.specs.Told.{cores, jobs_in, row_in}
 use Rattle.planner.specs.Memory.{Whether}
-use Rattle.planner.specs.Inner.Tighten.{Tightenable, Tightens}
+use Rattle.planner.specs.Inner.Tighten.{Tightens}
+use Rattle.planner.specs.Inner.Tighten.Early.{Startable}
 use Rattle.planner.specs.Inner.List.{Judgeable}
 use Rattle.planner.specs.Inner.Late.{Fills, Leaves}
 use Rattle.planner.proofs.Tightened.{tightens_whether}
 use Rattle.planner.proofs.Whether.{whether_as}
 
 -- ---- rows that may be judged
-pub judged_ready : (starts deadlines before row : List ℕ) → Judgeable starts deadlines before → length row ≡ 64 → Tightenable (length starts) starts before row
-judged_ready starts deadlines before row s long = record {
+pub judged_ready : (starts deadlines before : List ℕ) → Judgeable starts deadlines before → Startable (length starts) starts before
+judged_ready starts deadlines before s = record {
   few = s.few;
-  long = long;
-  starts = le_refl (length starts);
-  early = λ i l. omega (arith, s.early i l);
+  long = le_refl (length starts);
+  starts = λ i l. omega (arith, s.early i l);
   closed = s.closed;
   loopless = s.loopless;
   inside = s.held;

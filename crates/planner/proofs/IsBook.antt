@@ -26,7 +26,8 @@ use Rattle.book.specs.Told.{Book, cores, book_in, jobs_in, jobs_of, latest_of, M
 use Rattle.book.proofs.Parts.{part_length}
 use Rattle.planner.specs.Memory.{Whether}
 use Rattle.planner.specs.Inner.Memory.{Limits, Sub, ChainedAt, Regular, Steady}
-use Rattle.planner.specs.Inner.Tighten.{Tightenable, Tightens}
+use Rattle.planner.specs.Inner.Tighten.{Tightens}
+use Rattle.planner.specs.Inner.Tighten.Early.{Startable}
 use Rattle.planner.proofs.Growing.{false_T}
 use Rattle.planner.proofs.Whether.{whether_as}
 use Rattle.planner.proofs.Listing.{pairs_listed}
@@ -103,12 +104,11 @@ module _ (times before : List ℕ) (long : length times ≡ 129) (long_before : 
   latest_long = part_length 65 times (omega (arith, long))
 
   -- its rows may be tightened
-  pub regular_ready : Tightenable k.size k.start k.before k.latest
+  pub regular_ready : Startable k.size k.start k.before
   regular_ready = record {
     few = w.few;
-    long = latest_long;
-    starts = omega (arith, starts_long, w.few);
-    early = λ i l. omega (arith, w.starts.low i l);
+    long = omega (arith, starts_long, w.few);
+    starts = λ i l. omega (arith, w.starts.low i l);
     closed = chained_closed k.size k.start k.before w.few w.chained;
     loopless = chained_loopless k.size k.start k.before w.few w.chained;
     inside = chained_inside k.size k.start k.before w.few w.chained long_before;

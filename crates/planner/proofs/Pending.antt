@@ -16,7 +16,8 @@ use Rattle.planner.specs.declared.chains.Pending.{Pending}
 use Rattle.sets.specs.Sets.{has, With}
 use Rattle.book.specs.Told.{Book, Told}
 use Rattle.planner.specs.Inner.Chains.{Links, nothing, joined_of, joined_rows}
-use Rattle.planner.specs.Inner.Tighten.{Tightenable, Tightens}
+use Rattle.planner.specs.Inner.Tighten.{Tightens}
+use Rattle.planner.specs.Inner.Tighten.Early.{Startable}
 use Rattle.sets.proofs.Bits.{or_has, empty_has}
 use Rattle.sets.proofs.Range.{with_in}
 use Rattle.planner.proofs.Growing.{Grows, order_grows, false_T}
@@ -74,8 +75,11 @@ module _ (rows : List ℕ) (p : Pending) where
 pub rows_same : (rows : List ℕ) → length rows ≡ 64 → joined_rows rows nothing ≡ rows
 rows_same rows l = sym (rows_are rows nothing rows l (λ y h. sym (joined_nothing (get_or rows y 0) y)))
 
-pub nothing_ready : (size : ℕ) (start before row : List ℕ) (p : Pending) → p ≡ nothing → length before ≡ 64 → Tightenable size start before row → (p.job.0 < 64) × Tightenable size start (joined_rows before p) row
-nothing_ready size start before row p e l t = rw (e, rows_same before l) (omega arith, t)
+pub nothing_low : (p : Pending) → p ≡ nothing → p.job.0 < 64
+nothing_low p e = rw e (omega arith)
+
+pub nothing_ready : (size : ℕ) (start before : List ℕ) (p : Pending) → p ≡ nothing → length before ≡ 64 → Startable size start before → Startable size start (joined_rows before p)
+nothing_ready size start before p e l t = rw (e, rows_same before l) t
 
 pub nothing_tight : (m size : ℕ) (start before row next : List ℕ) (fits : Bool) (p : Pending) → p ≡ nothing → length before ≡ 64 → Tightens m size start (joined_rows before p) row next fits → Tightens m size start before row next fits
 nothing_tight m size start before row next fits p e l t = rw (e, rows_same before l) at t

@@ -1,13 +1,11 @@
 -- A request posed to the engine: the grown book as it lies in lent memory, and what the last check leaves of it.
 -- Assumes nothing.
-use mathlib.Core.Bool.{true, false}
+use mathlib.Core.Bool.{true}
 use mathlib.Core.List.{List}
 use mathlib.Core.Logic.{inl, inr}
 use mathlib.Core.Path.{◌≡◌, refl, sym, ap, ◌∙◌}
 use Prim.Native.Nat.{ℕ, ◌+◌, ◌≤◌, ◌<◌}
 use native.Mathlib.Omega.{arith}
-use lib.Dec.{eqb}
-use Rattle.std.proofs.lemmas.Bool.{eqb-false}
 use lib.ListN.{length, get_or, set, length-set}
 use lib.Seq.{set-get_or, get_or-set_other}
 use Rattle.std.proofs.lemmas.List.{set-set}
@@ -27,18 +25,15 @@ use Rattle.planner.specs.Requests.{times_checks, loop_checks, sound_checks, Soun
 use Rattle.refusal.proofs.Table.{then_table}
 use Rattle.planner.specs.Inner.Chains.{nothing, joined_rows}
 use Rattle.planner.specs.Inner.Requests.{Settleable, Kept, NoneMeets}
-use Rattle.planner.proofs.Growing.{false_T, true_T, Last, told_last, Grows, grows_ready, fits_last, none_last, size_is, job_grows, order_held, order_reads, followed_told, kept_told, deadline_grows}
-use Rattle.planner.proofs.Pending.{rows_same, pending_grows}
-
-nothing_low : (p : Pending) → p ≡ nothing → p.job.0 < 64
-nothing_low p e = rw e (omega arith)
+use Rattle.planner.proofs.Growing.{true_T, Last, told_last, Grows, grows_ready, fits_last, none_last, size_is, job_grows, order_held, order_reads, followed_told, kept_told, deadline_grows}
+use Rattle.planner.proofs.Pending.{rows_same, nothing_low, pending_grows}
 
 -- a book of so many jobs, one of them due by a deadline, with an order pending
 abbrev posed : ℕ → List ℕ → List ℕ → Pending → ℕ → ℕ → Book
 posed size times before p job d = record { size = size; start = part 1 times; latest = set (part 65 times) job d; before = joined_rows before p }
 
 module _ (L : Listed) (size : ℕ) (times before : List ℕ) (p : Pending) (job d : ℕ) (g : Grows L (posed size times before p job d)) where
-  posed_ready : 129 ≤ length times → job < 64 → p.job.0 < 64 → Settleable size times before p job d
+  posed_ready : 129 ≤ length times → job < 64 → p.job.0 < 64 → Settleable size times before p job
   posed_ready l j w = record { long = l; below = j; waits = w; ready = grows_ready L _ g }
 
   module _ (k : Book) (value : ℕ) where
@@ -70,7 +65,7 @@ module _ (L : Listed) (times before : List ℕ) (t : Told (book_in times before)
     job_posed : Grows (with_job L s d) (posed (n + 1) begun before p n d)
     job_posed = rw (part_in 1 times n s room, part_out 65 times (1 + n) s (inl (omega arith)), nothing_waits p e, size) (job_grows L k t s d (omega arith) (le_by s 4095 (λ x. clear.0 (inl x))) (le_by d 4096 (λ x. clear.0 (inr x))))
 
-    pub job_ready : Settleable (n + 1) begun before p n d
+    pub job_ready : Settleable (n + 1) begun before p n
     job_ready = posed_ready (with_job L s d) (n + 1) begun before p n d job_posed begun_long room (nothing_low p e)
 
     sound : Sound L (Job s d)
@@ -104,7 +99,7 @@ module _ (L : Listed) (times before : List ℕ) (t : Told (book_in times before)
     times_none left x = then_table sound (posed_none (grow L q) n times before p j d g k _ x (book_in after before) (ap (λ (l : List ℕ). book_in l before) left))
 
   -- an order of two jobs that closes no loop
-  module _ (a b : JobIndex) (n : ℕ) (size : n ≡ k.size) (la : a.0 < n) (lb : b.0 < n) (passes : Closes before a.0 b.0 (Ok tt)) where
+  module _ (a b : JobIndex) (n : ℕ) (size : n ≡ k.size) (held : (a.0 < n) × (b.0 < n)) (passes : Closes before a.0 b.0 (Ok tt)) where
     loopless : Clear (loop_checks 0 L.orders a.0 b.0)
     loopless = passes L.orders 0 (order_reads L k t a.0 b.0 (omega (arith, size)) (omega (arith, size)))
 
@@ -130,7 +125,7 @@ module _ (L : Listed) (times before : List ℕ) (t : Told (book_in times before)
           let same : set (part 65 times) b.0 due ≡ part 65 times = ap (set (part 65 times) b.0) (sym (part_at 65 times b.0 (omega (arith, t.shaped.few, size)))) ∙ set-get_or (part 65 times) b.0 0 in
           rw (same, size) (pending_grows L k t a.0 order (omega (arith, size)) (omega (arith, size)) m loopless.0 free)
 
-      pub order_ready : Settleable n times before order b.0 due
+      pub order_ready : Settleable n times before order b.0
       order_ready = posed_ready _ _ _ _ _ _ _ order_posed long (omega (arith, t.shaped.few)) (omega (arith, t.shaped.few))
 
       pub order_fits : (after rows : List ℕ) → rows ≡ joined_rows before order → Kept n times before order b.0 due after → Outcome L k (Before a b) (answered (book_in after rows) 0 0)
@@ -172,7 +167,7 @@ module _ (L : Listed) (times before : List ℕ) (t : Told (book_in times before)
         deadline_posed : Grows (with_deadline L j.0 d) (posed n times before p j.0 d)
         deadline_posed = rw (nothing_waits p e, size) (deadline_grows L k t j.0 d (omega (arith, size)) high (rw (part_at 65 times j.0 (omega (arith, t.shaped.few, size))) less))
 
-        pub deadline_ready : Settleable n times before p j.0 d
+        pub deadline_ready : Settleable n times before p j.0
         deadline_ready = posed_ready _ _ _ _ _ _ _ deadline_posed long (omega (arith, t.shaped.few)) (nothing_low p e)
 
         pub deadline_fits : (after : List ℕ) → Kept n times before p j.0 d after → Outcome L k (Earlier j d) (answered (book_in after before) 0 0)

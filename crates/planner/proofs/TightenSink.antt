@@ -181,14 +181,14 @@ module _ (m : ℕ) (pos : 1 ≤ m) (size : ℕ) (start before row next : List �
   abbrev J : Jobs
   J = jobs_in size start before
 
-  pub tightens_settled : (early mid : List ℕ) (fits : Bool) → Earliest J (row_in early) → Sunk m J (row_in early) row mid → Settles m J (row_in early) mid next fits → Tightens m size start before row next fits
+  pub tightens_settled : (early : ℕ → ℕ) (mid : List ℕ) (fits : Bool) → Earliest J early → Sunk m J early row mid → Settles m J early mid next fits → Tightens m size start before row next fits
   tightens_settled early mid fits e q s = record {
     length = long;
-    latest = λ b other o. latest_any m J (row_in early) other (row_in row) (row_in next) e o
-        (record { consistent = swept_consistent m pos J (row_in early) (row_in next) (s.swept b); beneath = (sunk b).bound.beneath; greatest = (sunk b).bound.rows });
+    latest = λ b other o. latest_any m J early other (row_in row) (row_in next) e o
+        (record { consistent = swept_consistent m pos J early (row_in next) (s.swept b); beneath = (sunk b).bound.beneath; greatest = (sunk b).bound.rows });
     rest = λ b. (sunk b).rest;
     none = λ b. none_join q (s.none b);
   }
     where
-      sunk : fits ≡ true → Sunk m J (row_in early) row next
+      sunk : fits ≡ true → Sunk m J early row next
       sunk b = sunk_join q (s.sunk b)

@@ -13,7 +13,7 @@ pub struct Pending {
 }
 
 impl Pending {
-    // No order.
+    // No order: it changes no row, so that nobody has to ask whether there is one.
     pub fn none() -> Pending
         ensures { result ≡ nothing }
     {
@@ -25,20 +25,12 @@ impl Pending {
 
     // The rows with the order pending; no row from size on has its job.
     pub fn link(self, size: usize, rows: &mut [u64; 64])
-        requires { (length rows.old ≡ 64) × (size ≤ 64) × (self.job.0 < size) × ((y : ℕ) → size ≤ y → T (has (get_or rows.old y 0) self.job.0) → ⊥) }
+        requires { (size ≤ 64) × (self.job.0 < size) × ((y : ℕ) → size ≤ y → T (has (get_or rows.old y 0) self.job.0) → ⊥) }
         ensures { rows.new ≡ joined_rows rows.old self }
     {
         for (y, row) in rows[..size].iter_mut().enumerate() {
             *row = self.joined(*row, JobIndex(y));
         }
-    }
-
-    // Row y with the order, read from the rows.
-    pub fn row_of(self, rows: &[u64; 64], y: JobIndex) -> u64
-        requires { (y.0 < 64) × (self.job.0 < 64) }
-        ensures { result ≡ get_or (joined_rows rows.now self) y.0 0 }
-    {
-        self.joined(rows[y.0], y)
     }
 
     // One such row: it takes in more where it is the job's, or has the job.

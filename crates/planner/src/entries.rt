@@ -1,9 +1,10 @@
 // The jobs and pairs of a whole list, checked one after the other.
-ghost use Rattle.std.specs.Prelude.{◌≡◌, ℕ, ◌/◌, ◌≤◌, ◌<◌, T, length, get_or};
+ghost use Rattle.std.specs.Prelude.{◌≡◌, ℕ, ◌/◌, ◌≤◌, ◌<◌, T, length, get_or, IsOk};
 ghost use Rattle.sets.specs.Sets.{has};
 ghost use Rattle.refusal.specs.Table.{places};
 ghost use Rattle.planner.specs.List.{Uneven, job_at, pair_at};
 ghost use Rattle.planner.specs.Memory.{Whether};
+ghost use Rattle.planner.specs.Requests.{held_checks};
 ghost use Rattle.planner.specs.Inner.Passes.{Passes, at_place};
 ghost use Rattle.planner.specs.Inner.Entries.{Held, Spells, Closes, Loops, TakesIn, Checked};
 
@@ -55,18 +56,22 @@ fn unheld_pair(pairs: &[u16], size: usize) -> Result<(), Refusal>
     ensures { Passes (places (length pairs.now / 2) (pair_at size pairs.now)) result }
 {
     for (p, pair) in pairs.chunks_exact(2).enumerate() {
-        if usize::from(pair[0]) >= size {
-            return Err(Refusal {
-                reason: Reason::NotHeld,
-                value: p,
-            });
-        }
-        if usize::from(pair[1]) >= size {
-            return Err(Refusal {
-                reason: Reason::SecondNotHeld,
-                value: p,
-            });
-        }
+        let first = JobIndex::from(pair[0]);
+        let second = JobIndex::from(pair[1]);
+        unheld(size, first, second).map_err(|reason| Refusal { reason, value: p })?;
+    }
+    Ok(())
+}
+
+// The fault of a before b among so many jobs.
+pub fn unheld(size: usize, a: JobIndex, b: JobIndex) -> Result<(), Reason>
+    ensures { ((place : ℕ) → Passes (held_checks place size a.0 b.0) (at_place place result)) × (IsOk result → (a.0 < size) × (b.0 < size)) }
+{
+    if a.0 >= size {
+        return Err(Reason::NotHeld);
+    }
+    if b.0 >= size {
+        return Err(Reason::SecondNotHeld);
     }
     Ok(())
 }
@@ -101,7 +106,7 @@ pub fn closes(rows: &[u64; 64], a: JobIndex, b: JobIndex) -> Result<(), Reason>
 
 // Job a before job b, unless that already follows.
 fn follow(size: usize, rows: &mut [u64; 64], a: JobIndex, b: JobIndex)
-    requires { (length rows.old ≡ 64) × (size ≤ 64) × (a.0 < size) × (b.0 < size) × ((y : ℕ) → size ≤ y → T (has (get_or rows.old y 0) b.0) → ⊥) }
+    requires { (size ≤ 64) × (a.0 < size) × (b.0 < size) × ((y : ℕ) → size ≤ y → T (has (get_or rows.old y 0) b.0) → ⊥) }
     ensures { TakesIn a.0 b.0 rows.old rows.new }
 {
     if !sets::has(rows[b.0], a) {

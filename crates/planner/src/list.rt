@@ -8,7 +8,7 @@ use crate::entries;
 use crate::judged::Rows;
 use refusal::{Answer, Reason};
 
-// The list judged, and its latest times in the receiving row; a refusal leaves the row as it was.
+// The list judged, and its latest times in the receiving row; a refusal leaves the row as it was. Starts, deadlines and pairs are three lent rows, as C has them.
 pub fn judge(starts: &[u16], deadlines: &[u16], pairs: &[u16], latest: &mut [u16]) -> Answer
     ensures { Says result (λ n v. Judges starts.now deadlines.now pairs.now latest.old (judged latest.new n v)) }
 {

@@ -5,7 +5,7 @@ ghost use Rattle.planner.specs.Memory.{Whether};
 ghost use Rattle.planner.specs.Inner.Memory.{Limits, Sub, ChainedAt, Regular, Steady};
 
 use crate::chains::Pending;
-use crate::tighten;
+use crate::tighten::posed::Posed;
 use book::{Before, Times};
 use schedule::JobIndex;
 
@@ -45,7 +45,7 @@ fn at_most(limit: u16, row: &[u16]) -> bool
 
 // Whether the sets are of jobs held, closed under chains, and none has its own job.
 fn chained(size: usize, before: &Before) -> bool
-    requires { (length before.now ≡ 64) × (size ≤ 64) }
+    requires { size ≤ 64 }
     ensures { Whether ((b : ℕ) → b < 64 → ChainedAt size before.now b) result }
 {
     for (b, &row) in before.iter().enumerate() {
@@ -58,7 +58,7 @@ fn chained(size: usize, before: &Before) -> bool
 
 // One set of them.
 fn chained_at(size: usize, before: &Before, job: JobIndex, row: u64) -> bool
-    requires { (length before.now ≡ 64) × (size ≤ 64) × (row ≡ get_or before.now job.0 0) }
+    requires { (size ≤ 64) × (row ≡ get_or before.now job.0 0) }
     ensures { Whether (ChainedAt size before.now job.0) result }
 {
     if job.0 >= size {
@@ -87,10 +87,14 @@ fn steady(times: &Times, before: &Before) -> bool
     requires { Regular (book_in times.now before.now) }
     ensures { Whether (Steady (book_in times.now before.now)) result }
 {
-    let size = usize::from(times[0]);
+    let posed = Posed {
+        size: usize::from(times[0]),
+        start: book::starts(times),
+        before,
+        pending: Pending::none(),
+    };
     let latest = book::latest(times);
     let mut row = [0u16; 64];
     row.copy_from_slice(latest);
-    tighten::tighten(size, book::starts(times), before, Pending::none(), &mut row)
-        && row.as_slice() == latest
+    posed.tighten(&mut row) && row.as_slice() == latest
 }

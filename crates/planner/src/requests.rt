@@ -5,9 +5,9 @@ ghost use Rattle.planner.specs.Requests.{Outcomes, Applies, answered};
 ghost use Rattle.planner.specs.Inner.Requests.{Settleable, Settles};
 
 use crate::chains::Pending;
-use crate::entries::closes;
+use crate::entries::{closes, unheld};
+use crate::tighten::posed::Posed;
 use crate::times::fault;
-use crate::{chains, tighten};
 use book::{Before, Times};
 use refusal::{Answer, Reason};
 use schedule::JobIndex;
@@ -66,12 +66,7 @@ fn add_order(times: &mut Times, before: &mut Before, first: JobIndex, second: Jo
     ensures { Says result (λ n v. Outcomes (book_in times.old before.old) (Request.Before first second) (answered (book_in times.new before.new) n v)) }
 {
     let size = usize::from(times[0]);
-    if first.0 >= size {
-        return Err(Reason::NotHeld.into());
-    }
-    if second.0 >= size {
-        return Err(Reason::SecondNotHeld.into());
-    }
+    unheld(size, first, second)?;
     closes(before, first, second)?;
     if sets::has(before[second.0], first) {
         return Ok(0);
@@ -109,13 +104,19 @@ fn settle(
     job: JobIndex,
     deadline: u16,
 ) -> Result<(), Reason>
-    requires { Settleable size times.old before.now pending job.0 deadline }
+    requires { Settleable size times.old before.now pending job.0 }
     ensures { Settles size times.old before.now pending job.0 deadline times.new result }
 {
     let mut row = [0u16; 64];
     row.copy_from_slice(book::latest(times));
     row[job.0] = deadline;
-    if !tighten::tighten(size, book::starts(times), before, pending, &mut row) {
+    let posed = Posed {
+        size,
+        start: book::starts(times),
+        before,
+        pending,
+    };
+    if !posed.tighten(&mut row) {
         return Err(Reason::NoPlan);
     }
     times[65..].copy_from_slice(&row);

@@ -1,53 +1,71 @@
 // Latest times: the rule until nothing moves.
 mod early;
+pub mod posed;
 mod rule;
 mod sink;
 mod tables;
 
-ghost use Rattle.std.specs.Prelude.{◌≡◌, ℕ, ◌<◌, ◌≤◌, T, MatchOption, get_or};
+ghost use Rattle.std.specs.Prelude.{◌≡◌, ℕ, ◌<◌, ◌≤◌, T, MatchOption, get_or, replicate};
 ghost use Rattle.schedule.specs.Jobs.{Jobs};
 ghost use Rattle.sets.specs.Sets.{has};
 ghost use Rattle.book.specs.Told.{cores, row_in};
-ghost use Rattle.planner.specs.Inner.Chains.{joined_rows};
-ghost use Rattle.planner.specs.Inner.Tighten.{Tightenable, Tightens, NoneAmong, DueAmong, AtD, Swept, Moves, Settles};
+ghost use Rattle.planner.specs.Inner.Tighten.Posed.{rows_of, Begun};
+ghost use Rattle.planner.specs.Inner.Tighten.{Tightens, NoneAmong, DueAmong, AtD, Swept, Moves, Settles};
 ghost use Rattle.planner.specs.Inner.Tighten.Known.{Known, SomeKnown};
 ghost use Rattle.planner.specs.Inner.Tighten.Rule.{DueBy};
 
-use crate::chains::Pending;
+use posed::Posed;
 use tables::{Starts, Tables};
 
-// The latest row beneath the row lent, in its place, with the order pending; false where no plan meets it.
-pub fn tighten<'a>(
-    size: usize,
-    start: &'a [u16],
-    before: &'a [u64; 64],
-    pending: Pending,
-    row: &mut [u16; 64],
-) -> bool
-    requires { (pending.job.0 < 64) × Tightenable size start.now (joined_rows before.now pending) row.old }
-    ensures { Tightens cores size start.now (joined_rows before.now pending) row.old row.new result }
-{
-    let mut early = [0u16; 64];
-    let mut order = [0u8; 64];
-    early::earliest(size, start, before, pending, &mut early, &mut order);
-    let mut followers = [0u64; 64];
-    tables::followers(size, before, pending, &mut followers);
-    let mut starts = Starts {
-        count: 0,
-        times: [65535; 65],
-        late: [0; 65],
-    };
-    let mut rank = [0u8; 64];
-    starts.fill(size, &early, &mut rank);
-    let tables = Tables {
-        size,
-        order: &order,
-        followers: &followers,
-        times: &starts.times,
-        late: &starts.late,
-        rank: &rank,
-    };
-    tables.sink(sets::below(size), row) && tables.settled(row)
+impl Posed<'_> {
+    // The latest row beneath the row lent, in its place, with the order pending; false where no plan meets it.
+    pub fn tighten(self, row: &mut [u16; 64]) -> bool
+        ensures { Tightens cores self.entry.size self.entry.start.now (rows_of self.entry) row.old row.new result }
+    {
+        let mut order = [0u8; 64];
+        let mut starts = Starts {
+            count: 0,
+            times: [65535; 65],
+            late: [0; 65],
+        };
+        let mut rank = [0u8; 64];
+        self.begin(&mut order, &mut starts, &mut rank);
+        self.beneath(&order, &starts, &rank, row)
+    }
+
+    // The tables of earliest times. Apart, so that the row of these leaves the stack before the followers come.
+    fn begin(self, order: &mut [u8; 64], starts: &mut Starts, rank: &mut [u8; 64])
+        requires { (starts.old.count ≡ 0) × (starts.old.times ≡ replicate 65 65535) × (starts.old.late ≡ replicate 65 0) }
+        ensures { Begun self.entry order.new starts.new rank.new }
+    {
+        let mut early = [0u16; 64];
+        self.earliest(&mut early, order);
+        starts.fill(self.size, &early, rank);
+    }
+
+    // The latest row, by the tables of earliest times and by one of followers.
+    fn beneath(
+        self,
+        order: &[u8; 64],
+        starts: &Starts,
+        rank: &[u8; 64],
+        row: &mut [u16; 64],
+    ) -> bool
+        requires { Begun self order.now starts.now rank.now }
+        ensures { Tightens cores self.entry.size self.entry.start.now (rows_of self.entry) row.old row.new result }
+    {
+        let mut followers = [0u64; 64];
+        self.followers(&mut followers);
+        let tables = Tables {
+            size: self.size,
+            order,
+            followers: &followers,
+            times: &starts.times,
+            late: &starts.late,
+            rank,
+        };
+        tables.sink(sets::below(self.size), row) && tables.settled(row)
+    }
 }
 
 // The jobs of a set whose time is below a limit, and the greatest such time.

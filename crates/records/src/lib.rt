@@ -44,7 +44,7 @@ pub fn length_of(told: Record) -> usize
     }
 }
 
-// The record at an offset, for any file and any offset; none at the end.
+// The record at an offset, for any file and any offset; none at the end. A walk is `while let Some(told) = record_at(file, at)?`: an iterator of results would have to promise its end by an error too.
 pub fn record_at(file: &[u8], at: usize) -> Result<Option<Record>, Refusal>
     ensures { Finds file.now at result }
 {
@@ -92,7 +92,7 @@ pub fn named(mark: u16, first: u16, second: u16, value: usize) -> Result<Record,
     }
 }
 
-// The bytes of a record from an offset on; where they do not fit, nothing changes and the answer is false.
+// The bytes of a record from an offset on; where they do not fit, nothing changes and the answer is false. `Stores` is asked at any offset, so bytes and offset are no struct.
 pub fn store(out: &mut [u8], at: usize, told: Record) -> bool
     ensures { Stores told at out.old result out.new }
 {

@@ -56,5 +56,5 @@ fn time_of(row: &[u16], job: JobIndex) -> SlotTime
     requires { job.0 < length row.now }
     ensures { result.0 ≡ get_or row.now job.0 0 }
 {
-    SlotTime(usize::from(row[job.0]))
+    SlotTime::from(row[job.0])
 }

@@ -5,6 +5,7 @@ ghost use Rattle.report.specs.Line.{refused_line, stopped_line, too_long_line, j
 use schedule::{JobIndex, SlotTime};
 use text::Page;
 
+// A number and no Option: it is a byte of `read_file`, which promises 0 for a record that was accepted.
 pub fn refused(page: &mut Page, place: usize, number: u8)
     ensures { Adds (refused_line place number) page.old page.new }
 {

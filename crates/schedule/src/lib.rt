@@ -8,19 +8,28 @@ ghost use Rattle.std.specs.Prelude.{◌≡◌};
 #[derive(Clone, Copy, Debug, PartialEq, Eq, PartialOrd, Ord)]
 pub struct JobIndex(pub usize);
 
-// t: a slot, or the time at which it begins.
-#[derive(Clone, Copy, Debug, PartialEq, Eq, PartialOrd, Ord)]
-pub struct SlotTime(pub usize);
-
-// The processor: core 0 or core 1.
-#[derive(Clone, Copy, Debug, PartialEq, Eq, PartialOrd, Ord)]
-pub struct CoreIndex(pub usize);
-
 // As a call or a record names it.
 impl From<u16> for JobIndex {
     ghost from_gives = { λ number job. job.0 ≡ number };
 
     fn from(number: u16) -> JobIndex {
-        JobIndex(number as usize)
+        JobIndex(usize::from(number))
     }
 }
+
+// t: a slot, or the time at which it begins.
+#[derive(Clone, Copy, Debug, PartialEq, Eq, PartialOrd, Ord)]
+pub struct SlotTime(pub usize);
+
+// As a row of times has it.
+impl From<u16> for SlotTime {
+    ghost from_gives = { λ time slot. slot.0 ≡ time };
+
+    fn from(time: u16) -> SlotTime {
+        SlotTime(usize::from(time))
+    }
+}
+
+// The processor: core 0 or core 1.
+#[derive(Clone, Copy, Debug, PartialEq, Eq, PartialOrd, Ord)]
+pub struct CoreIndex(pub usize);

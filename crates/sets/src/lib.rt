@@ -4,7 +4,7 @@
 
 ghost use Rattle.std.specs.Prelude.{◌≡◌};
 ghost use Rattle.schedule.specs.Count.{count};
-ghost use Rattle.sets.specs.Sets.{has, With, Without, Below, First, Rest};
+ghost use Rattle.sets.specs.Sets.{has, With, Without, Below};
 ghost use Rattle.std.specs.Iterator.{at_most};
 
 use schedule::JobIndex;
@@ -56,20 +56,6 @@ pub fn below(n: usize) -> u64
     (1u64 << n) - 1
 }
 
-// The first job of the set, 64 for none: `First` (specs/Sets) says so, and `Jobs` asks only where there is one.
-pub fn first(set: u64) -> JobIndex
-    ensures { First set result.0 }
-{
-    JobIndex(set.trailing_zeros() as usize)
-}
-
-// The set without its first job.
-pub fn rest(set: u64) -> u64
-    ensures { Rest set result }
-{
-    set & set.wrapping_sub(1)
-}
-
 // The jobs of a set, by number.
 #[derive(Clone, Copy)]
 pub struct Jobs(pub u64);
@@ -87,8 +73,8 @@ impl Iterator for Jobs {
         if self.0 == 0 {
             return None;
         }
-        let job = first(self.0);
-        self.0 = rest(self.0);
+        let job = JobIndex(self.0.trailing_zeros() as usize);
+        self.0 &= self.0 - 1;
         Some(job)
     }
 }

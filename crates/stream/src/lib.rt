@@ -2,7 +2,7 @@
 
 #![tactic(auto)]
 
-ghost use Rattle.std.specs.Prelude.{◌≤◌, ◌<◌, ◌^◌, IfSome, length};
+ghost use Rattle.std.specs.Prelude.{◌≤◌, IfSome, length};
 
 use std::io;
 use std::io::{ErrorKind, Read, Write};
@@ -17,17 +17,14 @@ pub trait Program<const N: usize> {
         ensures { result ≤ N };
 }
 
-// A job file on standard input, and on standard output the text that a program makes of it.
-pub fn run<const N: usize, P: Program<N>>(rt: &HostRuntime)
-    requires { N < 2 ^ 63 }
-{
+// A job file on standard input, and on standard output the text that a program makes of it, in the bytes lent.
+pub fn run<const N: usize, P: Program<N>>(rt: &HostRuntime, text: &mut [u8; N]) {
     // one byte more than a job file may have, so that a longer one is seen
     let mut bytes = [0u8; 24577];
     let Some(file) = read_whole(rt, &mut bytes) else {
         return;
     };
-    let mut text = [0u8; N];
-    let size = P::text(file, &mut text);
+    let size = P::text(file, text);
     write_whole(rt, &text[..size]);
 }
 

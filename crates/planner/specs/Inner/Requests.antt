@@ -7,14 +7,15 @@ use Rattle.refusal.specs.declared.Reason.TheVariants.{NoPlan}
 use Rattle.book.specs.Told.{cores, part, book_in, jobs_in, row_in}
 use Rattle.planner.specs.declared.chains.Pending.{Pending}
 use Rattle.planner.specs.Inner.Chains.{joined_rows}
-use Rattle.planner.specs.Inner.Tighten.{Tightenable, Tightens}
+use Rattle.planner.specs.Inner.Tighten.{Tightens}
+use Rattle.planner.specs.Inner.Tighten.Early.{Startable}
 
 -- a book in lent memory whose latest times, one of them changed, may be tightened
-pub record Settleable (size : ℕ) (times before : List ℕ) (pending : Pending) (job deadline : ℕ) : Type 0 where
+pub record Settleable (size : ℕ) (times before : List ℕ) (pending : Pending) (job : ℕ) : Type 0 where
   pub long : 129 ≤ length times
   pub below : job < 64
   pub waits : pending.job.0 < 64
-  pub ready : Tightenable size (part 1 times) (joined_rows before pending) (set (part 65 times) job deadline)
+  pub ready : Startable size (part 1 times) (joined_rows before pending)
 
 -- a book with other latest times
 pub record Keeps (row times after : List ℕ) : Type 0 where

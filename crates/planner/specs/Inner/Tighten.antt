@@ -1,7 +1,7 @@
 -- A row of deadlines tightened to the latest times beneath it, pass by pass.
 -- Assumes nothing.
 use Rattle.std.specs.Prelude.{Bool, true, false, ◌&&◌, List, Option, Some, None, ◌≡◌, ℕ, ◌≤◌, ◌<◌, T, ltb, length, get_or}
-use Rattle.schedule.specs.Jobs.{Jobs, Closed, Loopless}
+use Rattle.schedule.specs.Jobs.{Jobs}
 use Rattle.schedule.specs.Plan.{HasPlan}
 use Rattle.schedule.specs.Times.{Earliest, Latest}
 use Rattle.planner.specs.declared.tighten.Due.{Due}
@@ -9,22 +9,13 @@ use Rattle.sets.specs.Sets.{has}
 use Rattle.book.specs.Told.{jobs_in, row_in}
 use Rattle.planner.specs.Inner.Tighten.Sink.{Sunk}
 use Rattle.planner.specs.Inner.Tighten.Rule.{Obeys}
--- the tables of the rule, earliest times, followers, the rule itself
+-- what is asked, the tables of the rule, earliest times, followers, the rule itself
+pub mod Posed
 pub mod Tables
 pub mod Known
 pub mod Early
 pub mod Sink
 pub mod Rule
-
--- rows that may be tightened: at most 64 jobs, starts so early that each earliest time is below 65535, closed under chains, without a loop
-pub record Tightenable (size : ℕ) (start before row : List ℕ) : Type 0 where
-  pub few : size ≤ 64
-  pub long : length row ≡ 64
-  pub starts : size ≤ length start
-  pub early : (i : ℕ) → i < size → get_or start i 0 ≤ 65470
-  pub closed : Closed (jobs_in size start before)
-  pub loopless : Loopless (jobs_in size start before)
-  pub inside : (a b : ℕ) → T (has (get_or before b 0) a) → (a < size) × (b < size)
 
 -- the latest times beneath the row, and the entries beyond the jobs as they were; or that no plan meets the row
 pub record Tightens (m size : ℕ) (start before row next : List ℕ) (fits : Bool) : Type 0 where

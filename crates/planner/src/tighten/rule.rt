@@ -33,7 +33,7 @@ impl Tables<'_> {
         Some(left)
     }
 
-    // N at the first s at which N is at least CORES(d - s), 0 where there is none.
+    // N at the first s at which N is at least CORES(d - s); 0 where there is none, a count that lowers nothing.
     fn pressure(&self, job: JobIndex, held: u16, due: Due) -> usize
         requires { (job.0 < self.now.size) × (get_or self.now.times.now (get_or self.now.rank.now job.0 0) 0 < held) × (held ≤ due.d) }
         ensures { (result ≤ 64) × ((J : Jobs) (early row : ℕ → ℕ) → At J early row job.0 held due self.now → Pressure cores J early row job.0 due.d result) }

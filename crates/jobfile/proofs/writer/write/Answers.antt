@@ -1,3 +1,5 @@
+use mathlib.Core.Path.{refl, sym, ◌∙◌}
+use Rattle.std.proofs.Common.{rules}
 use native.Mathlib.Omega.{arith}
 use lib.ListN.{length-take}
 use Rattle.book.specs.Told.{book_in}
@@ -23,8 +25,8 @@ pub returns-then-out-needed : goal.returns-then-out-needed
 returns-then-out-needed c =
     short_writes _ _ _ (counted (book_in c.args.times.now c.args.before.now) c.requires _ c.from-size.ensures _ c.pairs.ensures) c.if-out-needed.true
 
-pub put_jobs-at-requires : goal.put_jobs-at-requires
-put_jobs-at-requires c =
+pub put_jobs-requires : goal.put_jobs-requires
+put_jobs-requires c =
     let k = book_in c.args.times.now c.args.before.now in
     let t = c.requires.1.shaped in
     let n = counted k c.requires _ c.from-size.ensures _ c.pairs.ensures in
@@ -37,15 +39,16 @@ pub put_orders-requires : goal.put_orders-requires
 put_orders-requires c =
     let k = book_in c.args.times.now c.args.before.now in
     let n = counted k c.requires _ c.from-size.ensures _ c.pairs.ensures in
-    let jobs = rw (jobs_are k c.requires _ c.from-size.ensures _ _ c.starts.ensures c.latest.ensures) at c.put_jobs-at.ensures in
+    let jobs = rw (jobs_are k c.requires _ c.from-size.ensures _ _ c.starts.ensures c.latest.ensures) at c.put_jobs.ensures in
     rw (orders_are k c.requires _ c.from-size.ensures) (
       omega (arith, length-take c.from-size.result k.before, c.requires.1.shaped.befores),
-      omega (arith, n, file_both k, jobs.next, continues_length _ _ _ _ _ jobs, c.if-out-needed.false),
+      omega (arith, n, file_both k, jobs.next, continues_length jobs, c.if-out-needed.false),
     )
 
 pub returns : goal.returns
 returns c =
     let k = book_in c.args.times.now c.args.before.now in
     let n = counted k c.requires _ c.from-size.ensures _ c.pairs.ensures in
-    let jobs = rw (jobs_are k c.requires _ c.from-size.ensures _ _ c.starts.ensures c.latest.ensures) at c.put_jobs-at.ensures in
-    long_writes _ _ _ n _ _ _ c.if-out-needed.false jobs (rw (orders_are k c.requires _ c.from-size.ensures) at c.put_orders.ensures)
+    let jobs = rw (jobs_are k c.requires _ c.from-size.ensures _ _ c.starts.ensures c.latest.ensures) at c.put_jobs.ensures in
+    let orders = rw (orders_are k c.requires _ c.from-size.ensures) at c.put_orders.ensures in
+    long_writes _ _ _ n c.if-out-needed.false refl jobs orders (search (rules, sym (orders.lent ∙ jobs.lent)))

@@ -5,4 +5,4 @@ use Rattle.planner.proofs.entries.follow.Goals as goal
 
 pub returns-then-not-has : goal.returns-then-not-has
 returns-then-not-has c =
-    rw c.link.ensures (inr (rows_long _ _, joined_links _ _ _ c.requires.0 (omega arith) (omega arith) c.with-more.ensures))
+    rw c.link.ensures (inr (rows_long _ _, joined_links _ _ _ (omega arith) (omega arith) (omega arith) c.with-more.ensures))

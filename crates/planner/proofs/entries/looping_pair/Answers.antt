@@ -28,7 +28,7 @@ follow-requires c =
     let m : Met pairs c.loop-p.p-iterator c.next.new.self p c.in-Some.pair.now = pair_met _ _ _ _ c.in-Some.pair c.loop-p.invariant.0 (search rules) in
     let h : (c.from-first.result.0 < c.args.size) × (c.from-second.result.0 < c.args.size) = held_both c.args.size _ c.requires.1 p _ _ m.below (rw c.from-first.ensures m.first) (rw c.from-second.ensures m.second) in
     let s = c.loop-p.invariant.2 in
-    (s.long, c.requires.0, h.0, h.1, (λ y l t. omega (arith, (spells_held _ _ _ _ c.requires.1 c.loop-p.invariant.0.few s _ y t).1)))
+    (c.requires.0, h.0, h.1, (λ y l t. omega (arith, (spells_held _ _ _ _ c.requires.1 c.loop-p.invariant.0.few s _ y t).1)))
 
 pub loop-p-preserved : goal.loop-p-preserved
 loop-p-preserved c =

@@ -1,7 +1,11 @@
-use Rattle.std.proofs.Common.{◌≡◌, ◌∙◌}
+use Rattle.std.proofs.Common.{◌≡◌, sym, ap, ◌∙◌, length, arith}
 use Rattle.book.specs.Told.{part}
+use Rattle.book.proofs.Parts.{part_length}
 use Rattle.planner.proofs.HandedOver.{keeps_put}
 use Rattle.planner.proofs.requests.settle.Goals as goal
+
+pub copy_from_slice-requires : goal.copy_from_slice-requires
+copy_from_slice-requires c = sym (ap length c.latest.ensures ∙ part_length 65 _ (omega (arith, c.told-times)))
 
 pub returns : goal.returns
 returns c =

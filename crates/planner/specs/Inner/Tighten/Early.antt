@@ -17,7 +17,7 @@ pub record After (start set : ℕ) (early : List ℕ) (time : ℕ) : Type 0 wher
   pub later : (a : ℕ) → T (has set a) → get_or early a 0 + 1 ≤ time
   pub some : (time ≡ start) ⊎ ((a : ℕ) × T (has set a) × (time ≡ get_or early a 0 + 1))
 
--- rows that have earliest times: at most the last start and a slot for each job, below 65535
+-- rows that may be tightened: at most 64 jobs, starts so early that each earliest time is below 65535, closed under chains, without a loop
 pub record Startable (size : ℕ) (start before : List ℕ) : Type 0 where
   pub few : size ≤ 64
   pub long : size ≤ length start

@@ -29,4 +29,4 @@ pub returns : goal.returns
 returns c =
     let r = c.requires in
     let all : length (take c.args.size c.args.rows.now) ≡ c.args.size = simp length-take (omega arith) in
-    linked _ _ _ _ r.0 r.1 (omega arith) r.2 r.3 (λ k h. c.loop-y.invariant.0 k (omega arith))
+    linked _ _ _ _ (omega arith) r.0 (omega arith) r.1 r.2 (λ k h. c.loop-y.invariant.0 k (omega arith))

@@ -1,7 +1,0 @@
--- `jobfile::writer::put_followers` meets its contract. The invariant: the orders of the jobs passed are stored.
-use Rattle.jobfile.specs.Writer.{gather, bytes_of_all, order_record}
-use Rattle.jobfile.specs.Inner.Writer.{Continues}
-use Rattle.jobfile.proofs.writer.put_followers.Given as goal
-
-abbrev pub invariant-loop-b : goal.invariant-loop-b
-invariant-loop-b l = Continues l.at (bytes_of_all (gather l.b (order_record l.before l.job.0))) l.initial.out l.out l.next
