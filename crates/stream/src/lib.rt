@@ -39,7 +39,7 @@ pub fn read_whole<'a>(rt: &HostRuntime, buf: &'a mut [u8]) -> Option<&'a [u8]>
     Some(&buf[..size])
 }
 
-// Reads until the buffer is full, the input has ended or a read fails: how many bytes came, and that failure.
+// Reads until the buffer is full, the input has ended or a read fails: how many bytes came, which the loop counts, and that failure.
 fn read_full(rt: &HostRuntime, buf: &mut [u8]) -> (usize, io::Result<()>)
     ensures { result.0 ≤ length buf.new }
 {

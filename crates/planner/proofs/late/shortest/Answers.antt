@@ -1,14 +1,12 @@
 use mathlib.Core.Logic.{inl, inr}
 use mathlib.Core.Path.{◌≡◌, refl}
-use Prim.Native.Nat.{◌<◌}
-use native.Mathlib.Omega.{arith}
 use borrow.Author.Rules.{rules}
 use lib.ListN.{length}
 use Rattle.std.specs.Prelude.{Err}
 use Rattle.refusal.specs.Table.{refused}
 use Rattle.planner.proofs.Pairs.{spells_none}
 use Rattle.planner.proofs.ListSound.{even_by, checked_judgeable}
-use Rattle.planner.proofs.HowLate.{short_none, short_refused, short_begins, short_ends}
+use Rattle.planner.proofs.HowLate.{short_none, short_refused, short_ends}
 use Rattle.planner.proofs.late.shortest.Goals as goal
 
 pub returns-then-uneven : goal.returns-then-uneven
@@ -33,11 +31,6 @@ returns-then-is_empty c =
 pub returns-then-not-leaves : goal.returns-then-not-leaves
 returns-then-not-leaves c =
     rw c.into-then-not-leaves.ensures (short_refused _ _ _ _ (c.uneven.ensures.no c.if-uneven.false) c.in_ok-faulty.ensures (c.leaves.ensures.no c.if-not-leaves.true))
-
-pub least-requires : goal.least-requires
-least-requires c =
-    let some : 0 < length c.args.starts.now = search rules in
-    (omega arith, short_begins _ _ _ _ (c.uneven.ensures.no c.if-uneven.false) c.in_ok-faulty.ensures some (c.leaves.ensures.yes c.if-not-leaves.false))
 
 pub returns : goal.returns
 returns c = short_ends _ _ _ _ (c.uneven.ensures.no c.if-uneven.false) c.in_ok-faulty.ensures _ c.least.ensures.1
