@@ -64,7 +64,7 @@ impl Written<'_> {
         requires { (length before.now ≤ 64) × HasRoom (orders_bytes before.now) self.old }
         ensures { Continues (orders_bytes before.now) self.old self.new }
     {
-        // a is a job, whose own row is not read
+        // a is a job's number, looked for in every row
         for a in 0..before.len() {
             self.put_followers(before, JobIndex(a));
         }
