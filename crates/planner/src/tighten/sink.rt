@@ -38,7 +38,11 @@ fn capped(held: u16, set: u64, row: &[u16; 64]) -> Option<u16>
 {
     let mut time = held;
     for job in sets::Jobs(set) {
-        time = time.min(row[job.0].checked_sub(1)?);
+        time = time.min(row[job.0].saturating_sub(1));
+    }
+    // no job ends by 0: told at once, before the rule is asked
+    if time == 0 {
+        return None;
     }
     Some(time)
 }

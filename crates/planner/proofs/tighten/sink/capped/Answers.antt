@@ -8,12 +8,8 @@ use Rattle.planner.proofs.tighten.sink.capped.Goals as goal
 pub loop-job-init : goal.loop-job-init
 loop-job-init c = (rw c.into_iter-job-iterator.ensures.into_iter_gives (λ a t. t), (λ J early i l e f r. rw (sym e) (eased_same cores (omega arith) J early (row_in c.args.row.now) l)))
 
-pub returns-in_err-checked_sub : goal.returns-in_err-checked_sub
-returns-in_err-checked_sub c = rw c.from_residual.ensures (λ J early i l e f r.
-    let q = c.loop-job in
-    let job = c.in-Some.job.0 in
-    let j = f job (q.invariant.0 job c.in-Some.ensures.steps.member) in
-    eased_follow cores (omega arith) J early (row_in c.args.row.now) l r job j.0 j.1 q.time 0 (q.invariant.1 J early i l e f r) (omega (arith, c.in_err-checked_sub.ensures)))
+pub returns-then-time-eq0 : goal.returns-then-time-eq0
+returns-then-time-eq0 c = λ J early i l e f r. rw c.if-time-eq0.true at (c.loop-job.invariant.1 J early i l e f r)
 
 pub loop-job-preserved : goal.loop-job-preserved
 loop-job-preserved c =
@@ -23,5 +19,5 @@ loop-job-preserved c =
       (λ a t. q.invariant.0 a (walk_sub q.job-iterator.0 c.next.new.self.0 job next.left a t)),
       (λ J early i l e f r.
           let j = f job (q.invariant.0 job next.member) in
-          eased_follow cores (omega arith) J early (row_in c.args.row.now) l r job j.0 j.1 q.time c.min-time.result (q.invariant.1 J early i l e f r) (omega (arith, c.min-time.ensures, c.in_ok-checked_sub.ensures.1))),
+          eased_follow cores (omega arith) J early (row_in c.args.row.now) l r job j.0 j.1 q.time c.min-time.result (q.invariant.1 J early i l e f r) (omega (arith, c.min-time.ensures, c.saturating_sub.ensures))),
     )
