@@ -41,33 +41,30 @@ impl Tables<'_> {
         let d = usize::from(due.d);
         let held = usize::from(held);
         let least = CORES * (d - held);
-        // N falls as s rises, so a count bounds those after it
-        let mut most: usize = 64;
-        if most < least {
+        if 64 < least {
             return 0;
         }
+        // N is at most 64, and falls as s rises, so a count bounds those after it: no s before `near` speaks
+        let mut near = d.saturating_sub(64 / CORES);
         let from = usize::from(self.rank[job.0]);
         let times = self.times;
         let late = self.late;
-        for (&time, &late) in times[from..].iter().zip(&late[from..]) {
+        for (&time, late) in times[from..].iter().zip(&late[from..]) {
             let s = usize::from(time);
-            if held <= s {
-                // the last s is the job's own time
-                let own = self.pressing(job, due.jobs, late);
-                return if own < least { 0 } else { own };
-            }
-            let room = CORES * (d - s);
-            if room <= most {
-                most = self.pressing(job, due.jobs, late);
-                if room <= most {
-                    return most;
-                }
+            if near <= s {
+                let most = self.pressing(job, due.jobs, *late);
                 if most < least {
                     return 0;
                 }
+                // the last s is the job's own time
+                if held <= s || CORES * (d - s) <= most {
+                    return most;
+                }
+                near = d - most / CORES;
             }
         }
-        0
+        // the last time, 65535, is below no time held
+        unreachable!()
     }
 
     // N with these late starters: how many jobs other than this one are due, and follow it or start late.
