@@ -29,25 +29,16 @@ impl Word {
         requires { self.size + 1 < 2 ^ 64 }
         ensures { result ≡ word_with self byte }
     {
-        let number = number_with(self.number, byte);
-        match self.size {
-            0 => Word {
-                size: 1,
-                high: byte,
-                low: 0,
-                number,
-            },
-            1 => Word {
-                size: 2,
-                low: byte,
-                number,
-                ..self
-            },
-            size => Word {
-                size: size + 1,
-                number,
-                ..self
-            },
+        let (high, low) = match self.size {
+            0 => (byte, 0),
+            1 => (self.high, byte),
+            _ => (self.high, self.low),
+        };
+        Word {
+            size: self.size + 1,
+            high,
+            low,
+            number: number_with(self.number, byte),
         }
     }
 
@@ -75,9 +66,9 @@ fn number_with(number: Result<u16, Slip>, byte: u8) -> Result<u16, Slip>
     if !byte.is_ascii_digit() {
         return Err(Slip::NotNumber);
     }
-    let digit = u16::from(byte - b'0');
-    number?
-        .checked_mul(10)
-        .and_then(|tens| tens.checked_add(digit))
-        .ok_or(Slip::TooLarge)
+    let longer = 10 * u32::from(number?) + u32::from(byte - b'0');
+    if longer > 65535 {
+        return Err(Slip::TooLarge);
+    }
+    Ok(longer as u16)
 }
