@@ -33,15 +33,21 @@ abbrev pub Says : Result ℕ Refusal → (ℕ → ℕ → Type 0) → Type 0
 Says (Ok value) P = P 0 value
 Says (Err refusal) P = P (reason_number refusal.reason) refusal.value
 
--- the number, and 0 where nothing is refused
-abbrev pub number_of : Result ℕ Refusal → ℕ
-number_of (Ok value) = 0
-number_of (Err refusal) = reason_number refusal.reason
+-- the number, and 0 where nothing is refused; and the value, answered or returned with the refusal
+module _ {R : Type 0} where
+  abbrev pub number_by : (R → ℕ) → Result ℕ R → ℕ
+  number_by told (Ok value) = 0
+  number_by told (Err refusal) = told refusal
 
--- what is answered, or returned with the refusal
+  abbrev pub value_by : (R → ℕ) → Result ℕ R → ℕ
+  value_by told (Ok value) = value
+  value_by told (Err refusal) = told refusal
+
+abbrev pub number_of : Result ℕ Refusal → ℕ
+number_of = number_by (λ refusal. reason_number refusal.reason)
+
 abbrev pub value_of : Result ℕ Refusal → ℕ
-value_of (Ok value) = value
-value_of (Err refusal) = refusal.value
+value_of = value_by (λ refusal. refusal.value)
 
 -- "room 1, 8, 9; request 2, 3, 5, 6; plan 4; form 7, 10, 11; every other number has class none"; 12, 13, "both of class request" (02, A1); "14 .. class form" (02, A2)
 abbrev pub class_of : ℕ → Option Class

@@ -2,8 +2,8 @@
 
 #![tactic(auto)]
 
-ghost use Rattle.std.specs.Prelude.{◌≡◌};
-ghost use Rattle.refusal.specs.Says.{number_of, value_of, class_of, reason_number, refused_by};
+ghost use Rattle.std.specs.Prelude.{◌≡◌, ℕ};
+ghost use Rattle.refusal.specs.Says.{number_by, value_by, class_of, reason_number, refused_by};
 
 // Why a call refuses, with its number.
 #[derive(Clone, Copy, Debug, PartialEq, Eq)]
@@ -70,23 +70,65 @@ pub enum Class {
     Form = 4,
 }
 
+// What tells a refusal: its number, and what is returned with it.
+pub trait Refused {
+    ghost number: { Self → ℕ };
+
+    ghost value: { Self → ℕ };
+
+    fn number(&self) -> u8
+        ensures { result ≡ number self.now };
+
+    fn value(&self) -> usize
+        ensures { result ≡ value self.now };
+}
+
+impl Refused for Refusal {
+    ghost number = { λ refusal. reason_number refusal.reason };
+
+    ghost value = { λ refusal. refusal.value };
+
+    fn number(&self) -> u8 {
+        self.reason.number()
+    }
+
+    fn value(&self) -> usize {
+        self.value
+    }
+}
+
+// The two numbers alone, as C has them: any number, of a reason or of none.
+impl Refused for (u8, usize) {
+    ghost number = { λ told. told.0 };
+
+    ghost value = { λ told. told.1 };
+
+    fn number(&self) -> u8 {
+        self.0
+    }
+
+    fn value(&self) -> usize {
+        self.1
+    }
+}
+
 // The number of the refusal, and 0 where nothing is refused.
-pub fn number(answer: Answer) -> u8
-    ensures { result ≡ number_of answer }
+pub fn number<R: Refused + Copy>(answer: Result<usize, R>) -> u8
+    ensures { result ≡ number_by R.number answer }
 {
     match answer {
         Ok(_) => 0,
-        Err(refusal) => refusal.reason.number(),
+        Err(refusal) => refusal.number(),
     }
 }
 
 // What is answered, or returned with the refusal.
-pub fn value(answer: Answer) -> usize
-    ensures { result ≡ value_of answer }
+pub fn value<R: Refused + Copy>(answer: Result<usize, R>) -> usize
+    ensures { result ≡ value_by R.value answer }
 {
     match answer {
         Ok(value) => value,
-        Err(refusal) => refusal.value,
+        Err(refusal) => refusal.value(),
     }
 }
 
