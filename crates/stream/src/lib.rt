@@ -40,7 +40,7 @@ pub fn read_whole<'a>(rt: &HostRuntime, buf: &'a mut [u8]) -> Option<&'a [u8]>
 }
 
 // Reads until the buffer is full, the input has ended or a read fails: how many bytes came, which the loop counts, and that failure.
-fn read_full(rt: &HostRuntime, buf: &mut [u8]) -> (usize, io::Result<()>)
+pub fn read_full(rt: &HostRuntime, buf: &mut [u8]) -> (usize, io::Result<()>)
     ensures { result.0 ≤ length buf.new }
 {
     let mut input = rt.stdin();
@@ -56,7 +56,7 @@ fn read_full(rt: &HostRuntime, buf: &mut [u8]) -> (usize, io::Result<()>)
 }
 
 // Whether the input has ended, asked after a read came back short, with how that read ended: a read that fails is told, and so is one that brings more, since the one before it failed.
-fn ended(rt: &HostRuntime, came: io::Result<()>) -> bool {
+pub fn ended(rt: &HostRuntime, came: io::Result<()>) -> bool {
     let mut one = [0u8; 1];
     let error = match rt.stdin().read(&mut one) {
         Ok(0) => return true,
